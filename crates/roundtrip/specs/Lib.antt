@@ -1,0 +1,12 @@
+pub mod Due
+pub mod Checked
+pub mod Kept
+pub mod LinesBack
+pub mod LinesAgain
+pub mod ReadOfWrite
+pub mod WriteOfRead
+pub mod AcceptedExactly
+pub mod LongestSite
+pub mod FirstBytes
+pub mod Tags
+pub mod EqualResults

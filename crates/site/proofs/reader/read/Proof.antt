@@ -1,0 +1,317 @@
+-- `site::reader::read` meets its contract. The invariant of the lines: what is left of the text, read from line k on after the records so far, is
+-- read as the whole text is; the counts are in range and the arrays whole. Each answer of the line reader takes one line, by the law of that answer.
+-- The invariant of the tags: no cluster before `j` has the line's tag.
+use mathlib.Core.Path.{_≡_, sym, ap, _∙_}
+use mathlib.Core.Bool.{true, not}
+use mathlib.Core.List.{List}
+use Prim.Native.Nat.{ℕ, _+_, _-_, _≤_, _<_}
+use native.Mathlib.Omega.{arith}
+use lib.ListN.{length, getD, drop}
+use Rattle.hexline.specs.Loops.{every, every-none, every-more}
+use Rattle.hexline.specs.Lines.{lineLength}
+use Rattle.hexline.specs.LineLaws.{line-inside, rowAt}
+use Rattle.site.specs.declared.Site.{Site}
+use Rattle.site.specs.Records.{absent, sameTag}
+use Rattle.site.specs.TagLaws.{tag-is-taken, tag-not-taken}
+use Rattle.site.specs.Reading.{withHeader, withCluster, withFlow, readText}
+use Rattle.site.specs.ReadLaws.{header-is, cluster-is, flow-is}
+use Rattle.site.specs.LeftLaws.{leftAt, left-start, left-refused, left-header, left-repeated, left-cluster, left-flow, left-none, left-missing, Sized, sized-start, sized-header, sized-cluster, sized-flow}
+use borrow.Author.Needs.{needs}
+use Rattle.site.proofs.reader.read.Statement.{statement}
+use Rattle.site.proofs.reader.read.Tie as tie
+
+abbrev Inv-loop2 : tie.InvT-loop2
+Inv-loop2 text site at k end next after parent order place len tag i j₀ j = (j ≤ i) × (every j (λ m. not (sameTag (getD (site .clusters) m absent .tag) tag)) ≡ true)
+
+abbrev μ-loop2 : tie.MeasureT-loop2
+μ-loop2 text site at k end next after parent order place len tag i j₀ j = i - j
+
+abbrev Inv-loop : tie.InvT-loop
+Inv-loop text site₀ at₀ k₀ site at k = (leftAt text at k site ≡ readText text) × Sized site × (k ≤ at + 1) × (at ≤ length text + 1)
+
+abbrev μ-loop : tie.MeasureT-loop
+μ-loop text site₀ at₀ k₀ site at k = length text + 1 - at
+
+-- a turn of the loop over the lines, after the line reader has answered
+abbrev Turn : Type 0
+Turn = tie.After-read-line Inv-loop2 μ-loop2 Inv-loop μ-loop
+
+abbrev text : Turn → List ℕ
+text turn = turn .before .before .before .before .before .before .before .args .text .now
+
+abbrev at : Turn → ℕ
+at turn = turn .before .before .before .before .loop .at
+
+abbrev number : Turn → ℕ
+number turn = turn .before .before .before .before .loop .k
+
+abbrev records : Turn → Site
+records turn = turn .before .before .before .before .loop .site
+
+abbrev end : Turn → ℕ
+end turn = turn .before .before .line-end .result
+
+running : (turn : Turn) → at turn < length (text turn)
+running turn = turn .before .before .before .loop-test .taken
+
+ended : (turn : Turn) → end turn ≡ at turn + lineLength (drop (at turn) (text turn))
+ended turn = turn .before .before .line-end .ensures
+
+inside : (turn : Turn) → end turn ≤ length (text turn)
+inside turn = line-inside (text turn) (at turn) (end turn) (omega (arith, running turn)) (ended turn)
+
+so-far : (turn : Turn) → leftAt (text turn) (at turn) (number turn) (records turn) ≡ readText (text turn)
+so-far turn = turn .before .before .before .before .loop .inv .0
+
+sized : (turn : Turn) → Sized (records turn)
+sized turn = turn .before .before .before .before .loop .inv .1
+
+few : (turn : Turn) → number turn ≤ at turn + 1
+few turn = turn .before .before .before .before .loop .inv .2
+
+no-site-requires : tie.Need-no-site-requires Inv-loop2 μ-loop2 Inv-loop μ-loop
+no-site-requires c κs = search needs
+
+loop-holds : tie.Need-loop-holds Inv-loop2 μ-loop2 Inv-loop μ-loop
+loop-holds c =
+    let start = c .no-site .ensures in
+    (rw start (left-start _), rw start sized-start, search needs, search needs)
+
+line-end-requires : tie.Need-line-end-requires Inv-loop2 μ-loop2 Inv-loop μ-loop
+line-end-requires c κs = search needs
+
+sub-line : tie.Need-sub-line Inv-loop2 μ-loop2 Inv-loop μ-loop
+sub-line c = search needs
+
+part-line-start : tie.Need-part-line-start Inv-loop2 μ-loop2 Inv-loop μ-loop
+part-line-start c = search needs
+
+part-line-end : tie.Need-part-line-end Inv-loop2 μ-loop2 Inv-loop μ-loop
+part-line-end c = line-inside (c .before .before .before .before .before .args .text .now) (c .before .before .loop .at) (c .line-end .result) (omega arith) (c .line-end .ensures)
+
+read-line-requires : tie.Need-read-line-requires Inv-loop2 μ-loop2 Inv-loop μ-loop
+read-line-requires c κs = search needs
+
+add-next : tie.Need-add-next Inv-loop2 μ-loop2 Inv-loop μ-loop
+add-next c = omega (arith, few c, running c, inside c)
+
+add-after : tie.Need-add-after Inv-loop2 μ-loop2 Inv-loop μ-loop
+add-after c = omega (arith, inside c)
+
+enum-known-entry : tie.Need-enum-known-entry Inv-loop2 μ-loop2 Inv-loop μ-loop
+enum-known-entry c = search needs
+
+refused-requires : tie.Need-refused-requires Inv-loop2 μ-loop2 Inv-loop μ-loop
+refused-requires c κs = search needs
+
+returns : tie.Need-returns Inv-loop2 μ-loop2 Inv-loop μ-loop
+returns c =
+    let turn = c .before .before .before .before in
+    let is = sym (turn .read-line .ensures) ∙ c .before .before .entry .given .1 in
+    c .refused .ensures ∙ sym (left-refused (text turn) (at turn) (number turn) (records turn) (end turn) (running turn) (ended turn) _ _ is) ∙ so-far turn
+
+enum-known-entry-2 : tie.Need-enum-known-entry-2 Inv-loop2 μ-loop2 Inv-loop μ-loop
+enum-known-entry-2 c = search needs
+
+loop-less : tie.Need-loop-less Inv-loop2 μ-loop2 Inv-loop μ-loop
+loop-less c =
+    let turn = c .before .before .before in
+    omega (arith, inside turn, ended turn, running turn)
+
+loop-again : tie.Need-loop-again Inv-loop2 μ-loop2 Inv-loop μ-loop
+unfolding withHeader
+loop-again c =
+    let turn = c .before .before .before in
+    let is = sym (turn .read-line .ensures) ∙ c .before .entry2 .given .1 in
+    let line = header-is (number turn) (records turn .«cluster_count») (records turn .«flow_count») (records turn .clusters) (rowAt (text turn) (at turn) (end turn)) _ _ is in
+    (sym (left-header (text turn) (at turn) (number turn) (records turn) (end turn) (running turn) (ended turn) _ _ line) ∙ so-far turn, sized-header (records turn) (sized turn) _ _ (line .fewClusters) (line .fewFlows), omega (arith, few turn, ended turn), omega (arith, inside turn))
+
+enum-known-entry-3 : tie.Need-enum-known-entry-3 Inv-loop2 μ-loop2 Inv-loop μ-loop
+enum-known-entry-3 c = search needs
+
+tag-at-requires : tie.Need-tag-at-requires Inv-loop2 μ-loop2 Inv-loop μ-loop
+tag-at-requires c κs =
+    let turn = c .before .before .before in
+    let is = sym (turn .read-line .ensures) ∙ c .before .entry3 .given .1 in
+    let line = cluster-is (number turn) (records turn .«cluster_count») (records turn .«flow_count») (records turn .clusters) (rowAt (text turn) (at turn) (end turn)) _ _ _ _ is in
+    (line .short, line .inside)
+
+sub-i : tie.Need-sub-i Inv-loop2 μ-loop2 Inv-loop μ-loop
+sub-i c =
+    let turn = c .before .before .before .before in
+    let line = cluster-is (number turn) (records turn .«cluster_count») (records turn .«flow_count») (records turn .clusters) (rowAt (text turn) (at turn) (end turn)) _ _ _ _ (sym (turn .read-line .ensures) ∙ c .before .before .entry3 .given .1) in
+    omega (arith, line .after)
+
+loop2-holds : tie.Need-loop2-holds Inv-loop2 μ-loop2 Inv-loop μ-loop
+loop2-holds c = (search needs, every-none _)
+
+mul-earlier : tie.Need-mul-earlier Inv-loop2 μ-loop2 Inv-loop μ-loop
+mul-earlier c =
+    let turn = c .before .before .before .before .before .before in
+    let line = cluster-is (number turn) (records turn .«cluster_count») (records turn .«flow_count») (records turn .clusters) (rowAt (text turn) (at turn) (end turn)) _ _ _ _ (sym (turn .read-line .ensures) ∙ c .before .before .before .before .entry3 .given .1) in
+    omega (arith, c .loop2-test .taken, line .after, line .within, sized turn .clusters, sized turn .clusterRoom)
+
+element-copy-out-earlier : tie.Need-element-copy-out-earlier Inv-loop2 μ-loop2 Inv-loop μ-loop
+element-copy-out-earlier c =
+    let turn = c .before .before .before .before .before .before in
+    let line = cluster-is (number turn) (records turn .«cluster_count») (records turn .«flow_count») (records turn .clusters) (rowAt (text turn) (at turn) (end turn)) _ _ _ _ (sym (turn .read-line .ensures) ∙ c .before .before .before .before .entry3 .given .1) in
+    omega (arith, c .loop2-test .taken, line .after, line .within, sized turn .clusters, sized turn .clusterRoom)
+
+same-tag-requires : tie.Need-same-tag-requires Inv-loop2 μ-loop2 Inv-loop μ-loop
+same-tag-requires c κs = search needs
+
+refused-requires-2 : tie.Need-refused-requires-2 Inv-loop2 μ-loop2 Inv-loop μ-loop
+refused-requires-2 c κs = search needs
+
+returns-2 : tie.Need-returns-2 Inv-loop2 μ-loop2 Inv-loop μ-loop
+returns-2 c =
+    let turn = c .before .before .before .before .before .before .before .before .before .before in
+    let line = cluster-is (number turn) (records turn .«cluster_count») (records turn .«flow_count») (records turn .clusters) (rowAt (text turn) (at turn) (end turn)) _ _ _ _ (sym (turn .read-line .ensures) ∙ c .before .before .before .before .before .before .before .before .entry3 .given .1) in
+    let tag = c .before .before .before .before .before .before .tag-at in
+    c .refused2 .ensures ∙ sym (left-repeated (text turn) (at turn) (number turn) (records turn) (end turn) (running turn) (ended turn) _ _ _ _ line (tag .result) (tag .ensures) (tag-is-taken _ _ _ (c .before .before .before .before .before .loop2 .j) (c .before .before .before .before .loop2-test .taken) (sym (c .before .before .same-tag .ensures) ∙ c .before .if1 .taken))) ∙ so-far turn
+
+add-j : tie.Need-add-j Inv-loop2 μ-loop2 Inv-loop μ-loop
+add-j c = search needs
+
+loop2-less : tie.Need-loop2-less Inv-loop2 μ-loop2 Inv-loop μ-loop
+loop2-less c = search needs
+
+loop2-again : tie.Need-loop2-again Inv-loop2 μ-loop2 Inv-loop μ-loop
+loop2-again c = (search needs, every-more _ _ (c .before .before .before .before .loop2 .inv .1) (ap not (sym (c .before .same-tag .ensures) ∙ c .if1 .left)))
+
+mul-cluster : tie.Need-mul-cluster Inv-loop2 μ-loop2 Inv-loop μ-loop
+mul-cluster c =
+    let turn = c .before .before .before .before .before .before in
+    let line = cluster-is (number turn) (records turn .«cluster_count») (records turn .«flow_count») (records turn .clusters) (rowAt (text turn) (at turn) (end turn)) _ _ _ _ (sym (turn .read-line .ensures) ∙ c .before .before .before .before .entry3 .given .1) in
+    omega (arith, line .after, line .within, sized turn .clusters, sized turn .clusterRoom)
+
+element-set-from-cluster : tie.Need-element-set-from-cluster Inv-loop2 μ-loop2 Inv-loop μ-loop
+element-set-from-cluster c =
+    let turn = c .before .before .before .before .before .before in
+    let line = cluster-is (number turn) (records turn .«cluster_count») (records turn .«flow_count») (records turn .clusters) (rowAt (text turn) (at turn) (end turn)) _ _ _ _ (sym (turn .read-line .ensures) ∙ c .before .before .before .before .entry3 .given .1) in
+    omega (arith, line .after, line .within, sized turn .clusters, sized turn .clusterRoom)
+
+loop-less-2 : tie.Need-loop-less-2 Inv-loop2 μ-loop2 Inv-loop μ-loop
+loop-less-2 c =
+    let turn = c .before .before .before .before .before .before in
+    omega (arith, inside turn, ended turn, running turn)
+
+loop-again-2 : tie.Need-loop-again-2 Inv-loop2 μ-loop2 Inv-loop μ-loop
+unfolding withCluster
+loop-again-2 c =
+    let turn = c .before .before .before .before .before .before in
+    let line = cluster-is (number turn) (records turn .«cluster_count») (records turn .«flow_count») (records turn .clusters) (rowAt (text turn) (at turn) (end turn)) _ _ _ _ (sym (turn .read-line .ensures) ∙ c .before .before .before .before .entry3 .given .1) in
+    let tag = c .before .before .tag-at in
+    let all : c .before .loop2 .j ≡ number turn - 2 = omega arith in
+    let fresh = tag-not-taken _ _ _ (rw all at (c .before .loop2 .inv .1)) in
+    (sym (left-cluster (text turn) (at turn) (number turn) (records turn) (end turn) (running turn) (ended turn) _ _ _ _ line (tag .result) (tag .ensures) fresh) ∙ so-far turn, sized-cluster (records turn) (sized turn) _ _, omega (arith, few turn, ended turn), omega (arith, inside turn))
+
+enum-known-entry-4 : tie.Need-enum-known-entry-4 Inv-loop2 μ-loop2 Inv-loop μ-loop
+enum-known-entry-4 c = search needs
+
+sub-j : tie.Need-sub-j Inv-loop2 μ-loop2 Inv-loop μ-loop
+sub-j c =
+    let turn = c .before .before .before in
+    let line = flow-is (number turn) (records turn .«cluster_count») (records turn .«flow_count») (records turn .clusters) (rowAt (text turn) (at turn) (end turn)) _ _ _ _ (sym (turn .read-line .ensures) ∙ c .before .entry4 .given .1) in
+    omega (arith, line .after)
+
+wide-requires : tie.Need-wide-requires Inv-loop2 μ-loop2 Inv-loop μ-loop
+wide-requires c κs = search needs
+
+sub-j-2 : tie.Need-sub-j-2 Inv-loop2 μ-loop2 Inv-loop μ-loop
+sub-j-2 c =
+    let turn = c .before .before .before .before in
+    let line = flow-is (number turn) (records turn .«cluster_count») (records turn .«flow_count») (records turn .clusters) (rowAt (text turn) (at turn) (end turn)) _ _ _ _ (sym (turn .read-line .ensures) ∙ c .before .before .entry4 .given .1) in
+    omega (arith, line .after, c .wide .ensures .0)
+
+mul-flow : tie.Need-mul-flow Inv-loop2 μ-loop2 Inv-loop μ-loop
+mul-flow c =
+    let turn = c .before .before .before .before in
+    let line = flow-is (number turn) (records turn .«cluster_count») (records turn .«flow_count») (records turn .clusters) (rowAt (text turn) (at turn) (end turn)) _ _ _ _ (sym (turn .read-line .ensures) ∙ c .before .before .entry4 .given .1) in
+    omega (arith, line .after, line .within, c .wide .ensures .0, sized turn .flows, sized turn .flowRoom)
+
+element-set-from-flow : tie.Need-element-set-from-flow Inv-loop2 μ-loop2 Inv-loop μ-loop
+element-set-from-flow c =
+    let turn = c .before .before .before .before in
+    let line = flow-is (number turn) (records turn .«cluster_count») (records turn .«flow_count») (records turn .clusters) (rowAt (text turn) (at turn) (end turn)) _ _ _ _ (sym (turn .read-line .ensures) ∙ c .before .before .entry4 .given .1) in
+    omega (arith, line .after, line .within, c .wide .ensures .0, sized turn .flows, sized turn .flowRoom)
+
+loop-less-3 : tie.Need-loop-less-3 Inv-loop2 μ-loop2 Inv-loop μ-loop
+loop-less-3 c =
+    let turn = c .before .before .before .before in
+    omega (arith, inside turn, ended turn, running turn)
+
+loop-again-3 : tie.Need-loop-again-3 Inv-loop2 μ-loop2 Inv-loop μ-loop
+unfolding withFlow
+loop-again-3 c =
+    let turn = c .before .before .before .before in
+    let line = flow-is (number turn) (records turn .«cluster_count») (records turn .«flow_count») (records turn .clusters) (rowAt (text turn) (at turn) (end turn)) _ _ _ _ (sym (turn .read-line .ensures) ∙ c .before .before .entry4 .given .1) in
+    (rw (c .wide .ensures .0) (sym (left-flow (text turn) (at turn) (number turn) (records turn) (end turn) (running turn) (ended turn) _ _ _ _ line) ∙ so-far turn), sized-flow (records turn) (sized turn) _ _, omega (arith, few turn, ended turn), omega (arith, inside turn))
+
+due-at-requires : tie.Need-due-at-requires Inv-loop2 μ-loop2 Inv-loop μ-loop
+due-at-requires c κs = search needs
+
+accepted-requires : tie.Need-accepted-requires Inv-loop2 μ-loop2 Inv-loop μ-loop
+accepted-requires c κs = search needs
+
+returns-3 : tie.Need-returns-3 Inv-loop2 μ-loop2 Inv-loop μ-loop
+returns-3 c = c .accepted .ensures ∙ sym (left-none (c .before .before .before .before .before .before .before .args .text .now) (c .before .before .before .before .loop .at) (c .before .before .before .before .loop .k) (c .before .before .before .before .loop .site) (c .before .before .before .loop-test .left) (sym (c .before .before .due-at .ensures) ∙ c .before .if2 .taken)) ∙ c .before .before .before .before .loop .inv .0
+
+refused-requires-3 : tie.Need-refused-requires-3 Inv-loop2 μ-loop2 Inv-loop μ-loop
+refused-requires-3 c κs = search needs
+
+returns-4 : tie.Need-returns-4 Inv-loop2 μ-loop2 Inv-loop μ-loop
+returns-4 c = c .refused3 .ensures ∙ sym (left-missing (c .before .before .before .before .before .before .before .args .text .now) (c .before .before .before .before .loop .at) (c .before .before .before .before .loop .k) (c .before .before .before .before .loop .site) (c .before .before .before .loop-test .left) (λ e. c .before .if2 .left (c .before .before .due-at .ensures ∙ e))) ∙ c .before .before .before .before .loop .inv .0
+
+pub read-spec : {M : Type 1} → statement M
+read-spec =
+    tie.close
+    (tie.spec
+    Inv-loop2
+    μ-loop2
+    Inv-loop
+    μ-loop
+    no-site-requires
+    loop-holds
+    line-end-requires
+    sub-line
+    part-line-start
+    part-line-end
+    read-line-requires
+    add-next
+    add-after
+    enum-known-entry
+    refused-requires
+    returns
+    enum-known-entry-2
+    loop-less
+    loop-again
+    enum-known-entry-3
+    tag-at-requires
+    sub-i
+    loop2-holds
+    mul-earlier
+    element-copy-out-earlier
+    same-tag-requires
+    refused-requires-2
+    returns-2
+    add-j
+    loop2-less
+    loop2-again
+    mul-cluster
+    element-set-from-cluster
+    loop-less-2
+    loop-again-2
+    enum-known-entry-4
+    sub-j
+    wide-requires
+    sub-j-2
+    mul-flow
+    element-set-from-flow
+    loop-less-3
+    loop-again-3
+    due-at-requires
+    accepted-requires
+    returns-3
+    refused-requires-3
+    returns-4)

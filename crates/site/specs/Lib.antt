@@ -1,0 +1,13 @@
+pub mod Records
+pub mod TagLaws
+pub mod Lines
+pub mod LinesLaws
+pub mod Table
+pub mod TableLaws
+pub mod Reading
+pub mod ReadLaws
+pub mod LeftLaws
+pub mod Check
+pub mod CheckLaws
+pub mod Shown
+pub mod ShownLaws

@@ -1,0 +1,58 @@
+-- The records of a site and the tests that a text's and a caller's records share (document 01, "Site text", "Refusal numbers" 4, 5 and 6).
+use mathlib.Core.Bool.{Bool, cond, not, _&&_}
+use mathlib.Core.List.{List, [], _∷_}
+use Prim.Native.Nat.{ℕ}
+use lib.ListN.{getD, replicate}
+use lib.Dec.{leb, ltb, eqb}
+use Rattle.hexline.specs.Loops.{every}
+use Rattle.hexline.specs.Digits.{between}
+use Rattle.hexline.specs.Lines.{anyOf}
+use Rattle.site.specs.declared.Tag.{Tag}
+use Rattle.site.specs.declared.Cluster.{Cluster}
+use Rattle.site.specs.declared.Flow.{Flow}
+use Rattle.site.specs.declared.Site.{Site}
+
+-- all zero: "bytes past the length are zero after reading, as are entries past the counts"
+abbrev pub noTag : Tag
+noTag = record { bytes = replicate 64 0; len = 0 }
+
+abbrev pub noCluster : Cluster
+noCluster = record { parent = 0; order = 0; tag = noTag }
+
+abbrev pub noFlow : Flow
+noFlow = record { source = 0; sink = 0; period = 0; deadline = 0 }
+
+unfoldable pub noSite : Site
+noSite = record { clusters = replicate 64 noCluster; flows = replicate 128 noFlow; «cluster_count» = 0; «flow_count» = 0 }
+
+-- what `getD` gives past the end of a list of clusters; no index here goes there
+abbrev pub absent : Cluster
+absent = record { parent = 0; order = 0; tag = record { bytes = []; len = 0 } }
+
+-- "Two tags are the same exactly if their lengths agree and all bytes up to that length"
+unfoldable pub sameTag : Tag → Tag → Bool
+sameTag a b = eqb (a .len) (b .len) && every (a .len) (λ i. eqb (getD (a .bytes) i 0) (getD (b .bytes) i 0))
+
+-- tag bytes are "each 21 to 7E hex"
+unfoldable pub printableTag : Tag → Bool
+printableTag t = every (t .len) (λ i. between 33 126 (getD (t .bytes) i 0))
+
+-- 4: the version is not 01, the clusters are not 1 to 64, or the flows not 0 to 128
+unfoldable pub headerOutside : ℕ → ℕ → ℕ → Bool
+headerOutside v n f = anyOf (not (eqb v 1) ∷ not (between 1 64 n) ∷ ltb 128 f ∷ [])
+
+-- 4: the order is not 0 to 14, the tag length not 1 to 64, or a tag byte not 21 to 7E
+unfoldable pub clusterOutside : Cluster → Bool
+clusterOutside c = anyOf (ltb 14 (c .order) ∷ not (between 1 64 (c .tag .len)) ∷ not (printableTag (c .tag)) ∷ [])
+
+-- 4: of n clusters the source or the sink is none, or the period or the deadline is not 1 to 1,000,000,000
+unfoldable pub flowOutside : ℕ → Flow → Bool
+flowOutside n f = anyOf (leb n (f .source) ∷ leb n (f .sink) ∷ not (between 1 1000000000 (f .period)) ∷ not (between 1 1000000000 (f .deadline)) ∷ [])
+
+-- 5: "the root's parent isn't FF, or another's parent isn't a lower number"
+unfoldable pub wrongParent : ℕ → ℕ → Bool
+wrongParent i p = cond (eqb i 0) (not (eqb p 255)) (leb i p)
+
+-- 6: one of the i clusters before has the same tag
+unfoldable pub tagTaken : List Cluster → ℕ → Tag → Bool
+tagTaken cs i t = not (every i (λ j. not (sameTag (getD cs j absent .tag) t)))

@@ -1,0 +1,103 @@
+// Sites (document 01, "Site text", "Refusal numbers"): the records, the line reader, the reader of
+// a whole text, the check of records and the part of a text shown for a line.
+mod checks;
+mod line;
+mod reader;
+mod shown;
+mod tags;
+
+pub use checks::check;
+pub use line::read_line;
+pub use reader::read;
+pub use shown::line_at;
+pub use shown::line_start;
+pub use tags::counted;
+pub use tags::same_tag;
+ghost use mathlib.Core.Path.{_≡_};
+ghost use Prim.Native.Nat.{_<_};
+
+// The limits of document 01.
+pub const MOST_CLUSTERS: u8 = 64;
+
+pub const MOST_FLOWS: u8 = 128;
+
+pub const MOST_TAG: u8 = 64;
+
+pub const MOST_ORDER: u8 = 14;
+
+pub const MOST_TIME: u32 = 1000000000;
+
+pub const MOST_DIGITS: usize = 136;
+
+// A tag, kept whole: its bytes and how many of them count.
+pub struct Tag {
+    pub bytes: [u8; 64],
+    pub len: u8,
+}
+
+// A cluster: the number of its parent, 255 for the root's, its superframe order and its tag.
+pub struct Cluster {
+    pub parent: u8,
+    pub order: u8,
+    pub tag: Tag,
+}
+
+// A flow between two clusters, with its required period and its deadline in symbols.
+pub struct Flow {
+    pub source: u8,
+    pub sink: u8,
+    pub period: u32,
+    pub deadline: u32,
+}
+
+// A site: of its clusters and flows, as many count as the two numbers say.
+pub struct Site {
+    pub clusters: [Cluster; 64],
+    pub flows: [Flow; 128],
+    pub cluster_count: u8,
+    pub flow_count: u8,
+}
+
+// What a line is: one of three records, or its refusal with number and line. A tag is kept beside,
+// as the byte of the line at which it begins and its length.
+pub enum Entry {
+    Header {
+        clusters: u8,
+        flows: u8,
+    },
+    Cluster {
+        parent: u8,
+        order: u8,
+        place: usize,
+        len: u8,
+    },
+    Flow {
+        source: u8,
+        sink: u8,
+        period: u32,
+        deadline: u32,
+    },
+    Refused {
+        number: u8,
+        line: usize,
+    },
+}
+
+// What is said of a text or of records.
+pub enum Verdict {
+    Accepted,
+    Refused { number: u8, line: usize },
+}
+
+// A text's records, all zero after a refusal, and the verdict.
+pub struct Reading {
+    pub site: Site,
+    pub verdict: Verdict,
+}
+
+// A byte as an index.
+pub fn wide(x: u8) -> usize
+    ensures { λ r. ⌜ (r ≡ x) × (r < 256) ⌝ }
+{
+    x as usize
+}

@@ -1,0 +1,181 @@
+// The line reader: what a line of a site's text is.
+use crate::Entry;
+use crate::MOST_CLUSTERS;
+use crate::MOST_DIGITS;
+use crate::MOST_FLOWS;
+use crate::MOST_ORDER;
+use crate::MOST_TAG;
+use crate::MOST_TIME;
+use crate::checks::bad_parent;
+use crate::wide;
+ghost use mathlib.Core.Path.{_≡_};
+ghost use Prim.Native.Nat.{_+_, _*_, _≤_, _<_};
+ghost use lib.ListN.{length};
+ghost use Rattle.hexline.specs.Digits.{numberAt};
+ghost use Rattle.site.specs.Lines.{printableLine};
+ghost use Rattle.site.specs.Table.{due, fieldsOf, entryOf};
+
+// The kind due at line k after a header of so many clusters and flows: 1 header, 2 cluster, 3 flow,
+// and 0 where no line is due.
+pub fn due_at(k: usize, clusters: u8, flows: u8) -> u8
+    ensures { λ r. ⌜ r ≡ due k clusters flows ⌝ }
+{
+    if k <= 1 {
+        return 1;
+    }
+    let last = 1 + wide(clusters);
+    if k <= last {
+        return 2;
+    }
+    if k <= last + wide(flows) {
+        return 3;
+    }
+    0
+}
+
+// Whether the tag bytes of a cluster line are all from 21 to 7E.
+fn printable_line(line: &[u8], len: u8) -> bool
+    requires { ⌜ 8 + 2 * len ≤ length (now line) ⌝ }
+    ensures { λ r. ⌜ r ≡ printableLine (now (line .entry)) len ⌝ }
+{
+    let n = wide(len);
+    let mut i: usize = 0;
+    while i < n {
+        let b = hexline::byte_at(line, 4 + i);
+        if b < 33 {
+            return false;
+        }
+        if b > 126 {
+            return false;
+        }
+        i += 1;
+    }
+    true
+}
+
+// The four bytes from byte k of a line on, as a number.
+fn time_at(line: &[u8], k: usize) -> u32
+    requires { ⌜ 2 * (k + 4) ≤ length (now line) ⌝ }
+    ensures { λ r. ⌜ r ≡ numberAt (now (line .entry)) k 4 ⌝ }
+{
+    hexline::number_at(line, k, 4) as u32
+}
+
+fn header_line(line: &[u8], k: usize) -> Entry
+    ensures { λ r. ⌜ r ≡ fieldsOf 1 k 0 (now (line .entry)) ⌝ }
+{
+    if line.len() / 2 != 4 {
+        return Entry::Refused { number: 3, line: k };
+    }
+    if hexline::byte_at(line, 1) != 1 {
+        return Entry::Refused { number: 4, line: k };
+    }
+    let clusters = hexline::byte_at(line, 2);
+    if clusters < 1 {
+        return Entry::Refused { number: 4, line: k };
+    }
+    if clusters > MOST_CLUSTERS {
+        return Entry::Refused { number: 4, line: k };
+    }
+    let flows = hexline::byte_at(line, 3);
+    if flows > MOST_FLOWS {
+        return Entry::Refused { number: 4, line: k };
+    }
+    Entry::Header { clusters, flows }
+}
+
+fn cluster_line(line: &[u8], k: usize) -> Entry
+    requires { ⌜ 2 ≤ k ⌝ }
+    ensures { λ r. ⌜ r ≡ fieldsOf 2 k 0 (now (line .entry)) ⌝ }
+{
+    if line.len() < 8 {
+        return Entry::Refused { number: 3, line: k };
+    }
+    let len = hexline::byte_at(line, 3);
+    if line.len() / 2 != 4 + wide(len) {
+        return Entry::Refused { number: 3, line: k };
+    }
+    let order = hexline::byte_at(line, 2);
+    if order > MOST_ORDER {
+        return Entry::Refused { number: 4, line: k };
+    }
+    if len < 1 {
+        return Entry::Refused { number: 4, line: k };
+    }
+    if len > MOST_TAG {
+        return Entry::Refused { number: 4, line: k };
+    }
+    if !printable_line(line, len) {
+        return Entry::Refused { number: 4, line: k };
+    }
+    let parent = hexline::byte_at(line, 1);
+    if bad_parent(k - 2, parent) {
+        return Entry::Refused { number: 5, line: k };
+    }
+    Entry::Cluster {
+        parent,
+        order,
+        place: 4,
+        len,
+    }
+}
+
+fn flow_line(line: &[u8], k: usize, clusters: u8) -> Entry
+    ensures { λ r. ⌜ r ≡ fieldsOf 3 k clusters (now (line .entry)) ⌝ }
+{
+    if line.len() / 2 != 11 {
+        return Entry::Refused { number: 3, line: k };
+    }
+    let source = hexline::byte_at(line, 1);
+    if source >= clusters {
+        return Entry::Refused { number: 4, line: k };
+    }
+    let sink = hexline::byte_at(line, 2);
+    if sink >= clusters {
+        return Entry::Refused { number: 4, line: k };
+    }
+    let period = time_at(line, 3);
+    if period < 1 {
+        return Entry::Refused { number: 4, line: k };
+    }
+    if period > MOST_TIME {
+        return Entry::Refused { number: 4, line: k };
+    }
+    let deadline = time_at(line, 7);
+    if deadline < 1 {
+        return Entry::Refused { number: 4, line: k };
+    }
+    if deadline > MOST_TIME {
+        return Entry::Refused { number: 4, line: k };
+    }
+    Entry::Flow {
+        source,
+        sink,
+        period,
+        deadline,
+    }
+}
+
+// What line k is, where the header says so many clusters and flows; `ended` says whether an LF ends
+// it. The tests stand in the order of their refusal numbers.
+pub fn read_line(line: &[u8], ended: bool, k: usize, clusters: u8, flows: u8) -> Entry
+    ensures { λ r. ⌜ r ≡ entryOf k clusters flows (record { chars = now (line .entry); ended = ended }) ⌝ }
+{
+    if hexline::is_malformed(line, ended, MOST_DIGITS) {
+        return Entry::Refused { number: 1, line: k };
+    }
+    let kind = due_at(k, clusters, flows);
+    if kind == 0 {
+        return Entry::Refused { number: 2, line: k };
+    }
+    if hexline::byte_at(line, 0) != kind {
+        return Entry::Refused { number: 2, line: k };
+    }
+    if kind == 1 {
+        return header_line(line, k);
+    }
+    if kind == 2 {
+        return cluster_line(line, k);
+    }
+    flow_line(line, k, clusters)
+}

@@ -1,0 +1,137 @@
+// The reader: any text in, its records by value or its refusal out.
+use crate::Cluster;
+use crate::Entry;
+use crate::Flow;
+use crate::Reading;
+use crate::Site;
+use crate::Tag;
+use crate::Verdict;
+use crate::line::due_at;
+use crate::line::read_line;
+use crate::tags::same_tag;
+use crate::tags::tag_at;
+use crate::wide;
+ghost use mathlib.Core.Path.{_≡_};
+ghost use Rattle.site.specs.Records.{noSite};
+ghost use Rattle.site.specs.Reading.{accepted as takenAs, refused as refusedAs, readText};
+
+// The records before the first line: all zero.
+fn no_site() -> Site
+    ensures { λ r. ⌜ r ≡ noSite ⌝ }
+{
+    let tag = Tag {
+        bytes: [0u8; 64],
+        len: 0,
+    };
+    let cluster = Cluster {
+        parent: 0,
+        order: 0,
+        tag,
+    };
+    let flow = Flow {
+        source: 0,
+        sink: 0,
+        period: 0,
+        deadline: 0,
+    };
+    let clusters = [cluster; 64];
+    let flows = [flow; 128];
+    Site {
+        clusters,
+        flows,
+        cluster_count: 0,
+        flow_count: 0,
+    }
+}
+
+fn accepted(site: Site) -> Reading
+    ensures { λ r. ⌜ r ≡ takenAs site ⌝ }
+{
+    Reading {
+        site,
+        verdict: Verdict::Accepted,
+    }
+}
+
+fn refused(number: u8, line: usize) -> Reading
+    ensures { λ r. ⌜ r ≡ refusedAs number line ⌝ }
+{
+    let site = no_site();
+    Reading {
+        site,
+        verdict: Verdict::Refused { number, line },
+    }
+}
+
+// The records of a text, or the refusal of its first bad line with records that are all zero.
+pub fn read(text: &[u8]) -> Reading
+    ensures { λ r. ⌜ r ≡ readText (now (text .entry)) ⌝ }
+{
+    let mut site = no_site();
+    let mut at: usize = 0;
+    let mut k: usize = 1;
+    while at < text.len() {
+        let end = hexline::line_end(text, at);
+        let line = &text[at..end];
+        let entry = read_line(
+            line,
+            end < text.len(),
+            k,
+            site.cluster_count,
+            site.flow_count,
+        );
+        let next = k + 1;
+        let after = end + 1;
+        match entry {
+            Entry::Refused { number, line } => return refused(number, line),
+            Entry::Header { clusters, flows } => {
+                site.cluster_count = clusters;
+                site.flow_count = flows;
+                k = next;
+                at = after;
+            }
+            Entry::Cluster {
+                parent,
+                order,
+                place,
+                len,
+            } => {
+                let tag = tag_at(line, place, len);
+                let i = k - 2;
+                let mut j: usize = 0;
+                while j < i {
+                    let earlier = site.clusters[j];
+                    if same_tag(earlier.tag, tag) {
+                        return refused(6, k);
+                    }
+                    j += 1;
+                }
+                let cluster = Cluster { parent, order, tag };
+                site.clusters[i] = cluster;
+                k = next;
+                at = after;
+            }
+            Entry::Flow {
+                source,
+                sink,
+                period,
+                deadline,
+            } => {
+                let flow = Flow {
+                    source,
+                    sink,
+                    period,
+                    deadline,
+                };
+                let j = k - 2 - wide(site.cluster_count);
+                site.flows[j] = flow;
+                k = next;
+                at = after;
+            }
+        }
+    }
+    if due_at(k, site.cluster_count, site.flow_count) == 0 {
+        return accepted(site);
+    }
+    refused(2, k)
+}

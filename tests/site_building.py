@@ -1,0 +1,124 @@
+"""What the cases of site_cases are built from: lines, sites, patches of records, and the case itself."""
+
+import struct
+from dataclasses import dataclass
+
+LARGEST_TEXT = 16_384
+LARGEST_NUMBER = 4_294_967_295
+FIELDS = ("cluster count", "flow count", "parent", "order", "tag length", "tag byte",
+          "source", "sink", "period", "deadline")
+OPEN = "open"
+
+
+@dataclass(frozen=True)
+class Case:
+    """A text, and what document 01 says of it, as we state it here without the reference."""
+    text: bytes
+    reads: object = OPEN     # the reader's refusal, or None where it accepts
+    writes: object = OPEN    # the writer's refusal, or the text it gives
+    patches: tuple = ()
+    room: int = LARGEST_TEXT
+    line: int = 2
+
+
+def reads(text, refusal=None, asked=2):
+    """A text that is accepted and given back, or refused; the records are then zero and refused by 4."""
+    return Case(text, refusal, (4, 1) if refusal else text, line=asked)
+
+
+def writes(text, answer, *patches, room=LARGEST_TEXT):
+    """A sound text whose patched records are refused, or written as a text."""
+    return Case(text, None, answer, patches, room)
+
+
+def both(base, text, refusal, *patches):
+    """A text, and the records of a sound one patched to the same fields: the answer is the same."""
+    yield reads(text, refusal)
+    yield writes(base, refusal or text, *patches)
+
+
+def patch(name, value, index=0, place=0):
+    """One field of the records set to a value."""
+    return FIELDS.index(name), index, place, value
+
+
+def tag_patches(tag, index=0):
+    return (patch("tag length", len(tag), index),
+            *(patch("tag byte", byte, index, place) for place, byte in enumerate(tag)))
+
+
+def flow_patches(source, sink, period=3_840, deadline=3_840):
+    return (patch("source", source), patch("sink", sink),
+            patch("period", period), patch("deadline", deadline))
+
+
+def line_of(*numbers):
+    """A line without its LF."""
+    return bytes(numbers).hex().upper().encode()
+
+
+def header(clusters, flows, version=1):
+    return line_of(1, version, clusters, flows)
+
+
+def cluster(parent, order, tag):
+    return line_of(2, parent, order, len(tag), *tag)
+
+
+def flow(source, sink, period=3_840, deadline=3_840):
+    return line_of(3, source, sink, *struct.pack(">II", period, deadline))
+
+
+def text_of(lines):
+    return b"".join(line + b"\n" for line in lines)
+
+
+def sound(clusters, flows, tag_length=1):
+    """The lines of a sound site whose tags differ in their last byte only."""
+    tags = [b"~" * (tag_length - 1) + bytes([0x21 + i]) for i in range(clusters)]
+    return ([header(clusters, flows), cluster(0xFF, 0, tags[0])]
+            + [cluster((i - 1) // 2, i % 15, tags[i]) for i in range(1, clusters)]
+            + [flow(j % clusters, 7 * j % clusters, 960 * (j + 1), 1_000_000_000 - j) for j in range(flows)])
+
+
+def one(cluster_line=cluster(0xFF, 0, b"A"), flow_line=flow(0, 0)):
+    """The text of one cluster and one flow, lines 2 and 3."""
+    return text_of([header(1, 1), cluster_line, flow_line])
+
+
+def pair(first, second):
+    """The text of a root and its child with these tags."""
+    return text_of([header(2, 0), cluster(0xFF, 0, first), cluster(0, 0, second)])
+
+
+def replaced(lines, number, line):
+    """The lines with another one at this number."""
+    return lines[:number - 1] + [line] + lines[number:]
+
+
+def byte_set(text, place, byte):
+    """The bytes with another one at this place."""
+    return text[:place] + bytes([byte]) + text[place + 1:]
+
+
+def made_bad(lines, refusal, number):
+    """The lines with the one at this number made bad by a refusal number, and by no lower one."""
+    line = lines[number - 1]
+    out_of_range = {b"01": line[:2] + b"02" + line[4:],
+                    b"02": line[:4] + b"0F" + line[6:],
+                    b"03": line[:-8] + b"00000000"}
+    bad = {1: line[:-1],
+           2: b"00" + line[2:],
+           3: line + b"41",
+           4: out_of_range[line[:2]],
+           5: line[:2] + b"FE" + line[4:],
+           6: line[:6] + lines[number - 2][6:]}
+    return replaced(lines, number, bad[refusal])
+
+
+P3 = [b"01010301", b"02FF000141", b"0200000142", b"0201000143", b"03020000000F0000000F00"]
+SMALL = [header(3, 2), cluster(0xFF, 0, b"A"), cluster(0, 14, b"Mast"), cluster(1, 10, b"|~"),
+         flow(2, 0), flow(0, 1, 1_000_000_000, 0x0ABCDEF0)]
+CLUSTERS_ONLY = sound(64, 0)
+FULL = sound(64, 128)
+LONGEST = sound(64, 128, 64)
