@@ -9,5 +9,6 @@ pub mod ReadLaws
 pub mod LeftLaws
 pub mod Check
 pub mod CheckLaws
+pub mod SmallRefusals
 pub mod Shown
 pub mod ShownLaws

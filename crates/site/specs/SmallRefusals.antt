@@ -1,0 +1,112 @@
+-- Refusals are small numbers: 1 to 6, at a line of at most 194, which is the line after the last of the largest site.
+use mathlib.Core.Path.{_≡_, refl, sym, ap, _∙_}
+use mathlib.Core.Bool.{Bool, true, false, not}
+use mathlib.Core.List.{List, [], _∷_, _++_}
+use mathlib.Core.Logic.{_⊎_, inl, inr}
+use Prim.Native.Nat.{ℕ, zero, suc, _+_, _-_, _≤_, _<_}
+use native.Mathlib.Omega.{arith}
+use lib.Dec.{ltb, eqb}
+use lib.ListN.{length, getD}
+use borrow.Author.Tests.{eqb-true, eqb-false, ltb-false, not-false}
+use Rattle.hexline.specs.Loops.{decide}
+use Rattle.hexline.specs.Digits.{between, byteAt}
+use Rattle.hexline.specs.DigitLaws.{between-true}
+use Rattle.hexline.specs.Lines.{Row, rows}
+use Rattle.hexline.specs.LineLaws.{none-of}
+use Rattle.site.specs.declared.Site.{Site}
+use Rattle.site.specs.declared.Flow.{Flow}
+use Rattle.site.specs.declared.Verdict.{Verdict}
+use Rattle.site.specs.declared.Verdict.the-variants.{Accepted, Refused}
+use Rattle.site.specs.Records.{noSite, noFlow, absent, headerOutside, clusterOutside, flowOutside, wrongParent, tagTaken}
+use Rattle.site.specs.Table.{lowest, due, wrongKind, outside, repeated, lineTests, refusal}
+use Rattle.site.specs.TableLaws.{lowest-none, Place, header, cluster, flow, beyond, place}
+use Rattle.site.specs.Reading.{withHeader, withCluster, withFlow, refusalAt, entered, accepted, refused, readRows, readText}
+use Rattle.site.specs.Check.{clusterRefusal, flowRefusal, firstBad, orElse, clustersVerdict, flowsVerdict, checked}
+
+-- a refusal of a text or of records
+abbrev pub Small : Verdict → Type 0
+Small Accepted = Unit {0}
+Small (Refused number line) = (number ≤ 6) × (line ≤ 194)
+
+lowest-small : (m : ℕ) (ts : List Bool) → lowest (suc m) ts ≤ m + length ts
+lowest-small m [] = omega arith
+lowest-small m (true ∷ ts) = omega arith
+lowest-small m (false ∷ ts) = omega (arith, lowest-small (suc m) ts)
+
+-- ---- texts
+
+-- line k is the first, or the line before it was due
+record Reached (k : ℕ) (s : Site) : Type 0 where
+  clusters : s .«cluster_count» ≤ 64
+  flows : s .«flow_count» ≤ 128
+  line : k ≤ 2 + s .«cluster_count» + s .«flow_count»
+
+reached-start : Reached 1 noSite
+unfolding noSite
+reached-start = record { clusters = omega arith; flows = omega arith; line = omega arith }
+
+reached-next : (k : ℕ) (s : Site) (r : Row) → Reached k s → refusalAt k s r ≡ 0 → Reached (k + 1) (entered k s (r .chars))
+unfolding refusal entered withHeader withCluster withFlow outside headerOutside wrongKind
+reached-next k s r h e =
+    let n : ℕ = s .«cluster_count» in
+    let f : ℕ = s .«flow_count» in
+    let l : List ℕ = r .chars in
+    let t = lowest-none 0 (lineTests k n f r ++ (repeated (due k n f) k (s .clusters) l ∷ [])) e in
+    elim (place k n f) [
+      | header p d ↦
+          let v = none-of (not (eqb (byteAt l 1) 1) ∷ not (between 1 64 (byteAt l 2)) ∷ ltb 128 (byteAt l 3) ∷ []) (rw d at (t .1 .1 .1 .0)) in
+          let few = between-true 1 64 (byteAt l 2) (not-false (between 1 64 (byteAt l 2)) (v .1 .0)) in
+          rw d (record { clusters = few .1; flows = ltb-false 128 (byteAt l 3) (v .1 .1 .0); line = omega arith })
+      | cluster p q d ↦ rw d (record { clusters = h .clusters; flows = h .flows; line = omega arith })
+      | flow p q d ↦ rw d (record { clusters = h .clusters; flows = h .flows; line = omega arith })
+      | beyond p d ↦ absurd (eqb-false (due k n f) 0 (none-of (eqb (due k n f) 0 ∷ not (eqb (byteAt l 0) (due k n f)) ∷ []) (t .1 .0) .0) d)
+    ]
+
+refusal-small : (k : ℕ) (s : Site) (r : Row) → refusalAt k s r ≤ 6
+unfolding refusal
+refusal-small k s r = lowest-small 0 (lineTests k (s .«cluster_count») (s .«flow_count») r ++ (repeated (due k (s .«cluster_count») (s .«flow_count»)) k (s .clusters) (r .chars) ∷ []))
+
+rows-small : (rs : List Row) (k : ℕ) (s : Site) → Reached k s → Small (readRows k s rs .verdict)
+unfolding readRows
+rows-small [] k s h = elim (decide (eqb (due k (s .«cluster_count») (s .«flow_count»)) 0)) [
+  | inl e ↦ rw e tt
+  | inr e ↦ rw e (omega arith, omega (arith, h .clusters, h .flows, h .line))
+]
+rows-small (r ∷ rs) k s h = elim (decide (eqb (refusalAt k s r) 0)) [
+  | inl e ↦ rw e (rows-small rs (k + 1) (entered k s (r .chars)) (reached-next k s r h (eqb-true _ _ e)))
+  | inr e ↦ rw e (refusal-small k s r, omega (arith, h .clusters, h .flows, h .line))
+]
+
+pub text-refusal-small : (t : List ℕ) → Small (readText t .verdict)
+unfolding readText
+text-refusal-small t = rows-small (rows t) 1 noSite reached-start
+
+-- ---- records
+
+bad-small : (f : ℕ → ℕ) (first m i : ℕ) → ((j : ℕ) → f j ≤ 6) → first + i + m ≤ 195 → Small (firstBad f first m i)
+unfolding firstBad
+bad-small f first zero i h b = tt
+bad-small f first (suc m) i h b = elim (decide (eqb (f i) 0)) [
+  | inl e ↦ rw e (bad-small f first m (i + 1) h (omega arith))
+  | inr e ↦ rw e (h i, omega arith)
+]
+
+else-small : (a b : Verdict) → Small a → Small b → Small (orElse a b)
+else-small Accepted b p q = q
+else-small (Refused m k) b p q = p
+
+pub record-refusal-small : (s : Site) → Small (checked s)
+unfolding checked clustersVerdict flowsVerdict clusterRefusal flowRefusal headerOutside
+record-refusal-small s =
+    let n : ℕ = s .«cluster_count» in
+    let f : ℕ = s .«flow_count» in
+    elim (decide (headerOutside 1 n f)) [
+      | inl e ↦ rw e (omega arith, omega arith)
+      | inr e ↦
+          let v = none-of (not (eqb 1 1) ∷ not (between 1 64 n) ∷ ltb 128 f ∷ []) e in
+          let few = between-true 1 64 n (not-false (between 1 64 n) (v .1 .0)) in
+          let fewFlows = ltb-false 128 f (v .1 .1 .0) in
+          rw e (else-small (clustersVerdict (s .clusters) n) (flowsVerdict n (s .flows) f)
+          (bad-small (clusterRefusal (s .clusters)) 2 n 0 (λ j. lowest-small 3 (clusterOutside (getD (s .clusters) j absent) ∷ wrongParent j (getD (s .clusters) j absent .parent) ∷ tagTaken (s .clusters) j (getD (s .clusters) j absent .tag) ∷ [])) (omega arith))
+          (bad-small (λ j. flowRefusal n (getD (s .flows) j noFlow)) (2 + n) f 0 (λ j. let h = lowest-small 3 (flowOutside n (getD (s .flows) j noFlow) ∷ []) in omega arith) (omega arith)))
+    ]
