@@ -1,5 +1,4 @@
 pub mod Due
-pub mod Checked
 pub mod Kept
 pub mod LinesBack
 pub mod LinesAgain

@@ -29,7 +29,7 @@ use Rattle.site.specs.Reading.{withHeader, withCluster, withFlow, refusalAt, en
 use Rattle.site.specs.Check.{clusterRefusal, flowRefusal, checked}
 use Rattle.writer.specs.Text.{headerBytes, clusterBytes, flowBytes, textOf}
 use Rattle.roundtrip.specs.Due.{cluster-due, flow-due, none-due}
-use Rattle.roundtrip.specs.Checked.{sound-checked, header-in, cluster-in}
+use Rattle.site.specs.Checked.{sound-checked, header-in, cluster-in}
 use Rattle.roundtrip.specs.LinesAgain.{joined, joined-none, joined-rows, header-again, cluster-again, flow-again, line-again}
 use Rattle.roundtrip.specs.LinesAgain.{taken-is-due, taken-length, taken-header, taken-cluster, taken-flow}
 

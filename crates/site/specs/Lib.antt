@@ -9,6 +9,7 @@ pub mod ReadLaws
 pub mod LeftLaws
 pub mod Check
 pub mod CheckLaws
+pub mod Checked
 pub mod SmallRefusals
 pub mod Shown
 pub mod ShownLaws

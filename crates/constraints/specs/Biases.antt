@@ -1,0 +1,93 @@
+-- The bias does not matter: constraints settle as their biased forms do, where no debit is above the bias.
+use mathlib.Core.Path.{_≡_, refl, sym, ap, _∙_}
+use mathlib.Core.Bool.{true, false, _&&_}
+use mathlib.Core.List.{List, [], _∷_, map}
+use mathlib.Core.Logic.{inl, inr}
+use mathlib.Core.Option.{Option, none, some}
+use Prim.Native.Nat.{ℕ, zero, suc, _+_, _-_, _≤_, _<_}
+use native.Mathlib.Omega.{arith}
+use lib.Dec.{leb}
+use lib.ListN.{set}
+use borrow.Author.Tests.{leb-true, leb-false}
+use Rattle.model.specs.ConstraintLaws.{Within}
+use Rattle.model.specs.Constraints.{Constraint, treeConstraints, descent, flowConstraint, flowConstraints, constraints}
+use Rattle.model.specs.Counting.{Each, at}
+use Rattle.model.specs.CountingLaws.{passes-or-fails, each-imply, each-map, each-append}
+use Rattle.model.specs.Relaxing.{okay, allOkay, relax, round, settle}
+use Rattle.model.specs.RelaxingLaws.{okay-if, broken-if, relax-keeps, relax-lowers, relax-refuses, settle-ends}
+use Rattle.model.specs.Sites.{Flow, Site, size, parent, Sound}
+use Rattle.model.specs.TreeLaws.{depth-at-most}
+use Rattle.constraints.specs.Lists.{bias, biased}
+
+-- the bias covers the debit
+abbrev pub Covered : Constraint → Type 0
+Covered k = k .debit ≤ bias
+
+module _ (k : Constraint) (d : List ℕ) (h : Covered k) where
+  okay-biased : okay (biased k) d ≡ okay k d
+  unfolding okay
+  okay-biased = elim (passes-or-fails (okay k d)) [
+    | inl e ↦ okay-if (biased k) d (omega (arith, leb-true (at d (k .to) + k .debit) (at d (k .from) + k .credit) e)) ∙ sym e
+    | inr e ↦ broken-if (biased k) d (omega (arith, leb-false (at d (k .to) + k .debit) (at d (k .from) + k .credit) e)) ∙ sym e
+  ]
+
+  relax-biased : relax (biased k) d ≡ relax k d
+  relax-biased = elim (passes-or-fails (okay k d)) [
+    | inl e ↦ relax-keeps (biased k) d (okay-biased ∙ e) ∙ sym (relax-keeps k d e)
+    | inr e ↦ elim (passes-or-fails (leb (k .debit) (at d (k .from) + k .credit))) [
+      | inl t ↦ let l = leb-true (k .debit) (at d (k .from) + k .credit) t in
+          relax-lowers (biased k) d (okay-biased ∙ e) (omega arith) ∙ ap (λ x. some (set d (k .to) x)) (omega arith) ∙ sym (relax-lowers k d e l)
+      | inr t ↦ let l = leb-false (k .debit) (at d (k .from) + k .credit) t in
+          relax-refuses (biased k) d (omega arith) ∙ sym (relax-refuses k d l)
+    ]
+  ]
+
+all-okay-biased : (ks : List Constraint) (d : List ℕ) → Each Covered ks → allOkay (map biased ks) d ≡ allOkay ks d
+unfolding allOkay
+all-okay-biased [] d h = refl
+all-okay-biased (k ∷ ks) d h = rw (okay-biased k d (h .0), all-okay-biased ks d (h .1))
+
+-- what a way on makes of the distances, where there are some
+abbrev after : Option (List ℕ) → (List ℕ → Option (List ℕ)) → Option (List ℕ)
+after r f = elim r [ none ↦ none | some e ↦ f e ]
+
+same-after : {f g : List ℕ → Option (List ℕ)} (r : Option (List ℕ)) → ((e : List ℕ) → f e ≡ g e) → after r f ≡ after r g
+same-after none h = refl
+same-after (some e) h = h e
+
+round-biased : (ks : List Constraint) (d : List ℕ) → Each Covered ks → round (map biased ks) d ≡ round ks d
+unfolding round
+round-biased [] d h = refl
+round-biased (k ∷ ks) d h = rw (relax-biased k d (h .0), round) (same-after (relax k d) (λ e. round-biased ks e (h .1)))
+
+pub settle-biased : (rounds : ℕ) (ks : List Constraint) (d : List ℕ) → Each Covered ks → settle rounds (map biased ks) d ≡ settle rounds ks d
+unfolding settle
+settle-biased zero ks d h = refl
+settle-biased (suc rounds) ks d h = elim (passes-or-fails (allOkay ks d)) [
+  | inl e ↦ settle-ends rounds (map biased ks) d (all-okay-biased ks d h ∙ e) ∙ sym (settle-ends rounds ks d e)
+  | inr e ↦ rw (all-okay-biased ks d h, e, round-biased ks d h, settle) (same-after (round ks d) (λ r. settle-biased rounds ks r h))
+]
+
+pub within-biased : (n : ℕ) (ks : List Constraint) → Each (Within n) ks → Each (Within n) (map biased ks)
+within-biased n ks h = each-map biased (Within n) ks h
+
+-- ## The bias covers the debits of a site
+
+tree-covered : (parent : ℕ → ℕ) (c k : ℕ) → Each Covered (treeConstraints parent c k)
+unfolding treeConstraints
+tree-covered parent c zero = tt
+tree-covered parent c (suc k) = (omega arith, (omega arith, tree-covered parent (suc c) k))
+
+module _ (s : Site) (sound : Sound s) (few : size s ≤ bias) where
+  pub descent-shallow : (f : Flow) → f .sink < size s → descent s f ≤ 63
+  unfolding descent
+  descent-shallow f h = omega (arith, depth-at-most (parent s) (size s) (sound .tree) (f .sink) h)
+
+  pub constraints-covered : (order : ℕ) → Each Covered (constraints s order)
+  unfolding constraints
+  constraints-covered order = each-append
+      Covered
+      (treeConstraints (parent s) 1 (size s - 1))
+      (flowConstraints s order)
+      (tree-covered (parent s) 1 (size s - 1))
+      (each-map (flowConstraint s order) Covered (s .flows) (each-imply (s .flows) (λ f e. omega (arith, descent-shallow f (e .1))) (sound .ends)))

@@ -1,0 +1,4 @@
+pub mod Lists
+pub mod ListLaws
+pub mod FillLaws
+pub mod Biases
