@@ -6,7 +6,7 @@ use native.Mathlib.Numerals.{add-one}
 use native.Mathlib.Omega.{arith}
 use lib.ListN.{length, drop, length-append}
 use lib.Seq.{drop-cons}
-use Rattle.model.specs.Constraints.{treeConstraints, flowConstraint, flowConstraints, constraints, descent}
+use Rattle.model.specs.Constraints.{treeConstraints, flowConstraint, constraints, descent}
 use Rattle.model.specs.ConstraintLaws.{tree-constraints-length}
 use Rattle.model.specs.Counting.{at}
 use Rattle.model.specs.CrossingLaws.{allowed-divides}

@@ -6,7 +6,7 @@ ghost use mathlib.Core.List.{[], _∷_, _++_};
 ghost use Prim.Native.Nat.{_+_, _*_, _^_, _≤_, _<_};
 ghost use lib.ListN.{length, drop};
 ghost use Rattle.hexline.specs.Digits.{isDigit, digit, hexOf, byteAt, numberAt, allDigits, hexes, numberBytes, fieldBytes, lineOf};
-ghost use Rattle.hexline.specs.Lines.{Row, lineLength, malformed};
+ghost use Rattle.hexline.specs.Lines.{lineLength, malformed};
 ghost use Rattle.hexline.specs.Room.{put};
 
 // Whether a character is one of 0-9 and A-F.

@@ -5,7 +5,7 @@ use mathlib.Core.Bool.{Bool, true, false, not, _&&_, _||_, false≢true, and-tru
 use mathlib.Core.List.{List, [], _∷_, _++_}
 use mathlib.Core.Logic.{_≢_}
 use mathlib.Core.Option.{some}
-use Prim.Native.Nat.{ℕ, zero, suc, _+_, _<_}
+use Prim.Native.Nat.{ℕ, suc, _+_, _<_}
 use native.Mathlib.Omega.{arith}
 use lib.Dec.{eqb}
 use borrow.Author.Tests.{eqb-false, ne-eqb, eq-eqb}

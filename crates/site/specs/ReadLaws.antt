@@ -1,30 +1,28 @@
 -- What each answer of the line reader means for the reader of a text: the tests that the line passed, and the records that the next line meets.
-use mathlib.Core.Path.{_≡_, refl, sym, ap, _∙_, subst}
-use mathlib.Core.Bool.{Bool, true, false, not, cond}
-use mathlib.Core.List.{List, [], _∷_, _++_}
-use mathlib.Core.Logic.{_⊎_, inl, inr}
-use Prim.Native.Nat.{ℕ, suc, _+_, _-_, _*_, _/_, _≤_, _<_}
+use mathlib.Core.Path.{_≡_, sym, ap, _∙_, subst}
+use mathlib.Core.Bool.{true, false, not, cond}
+use mathlib.Core.List.{List, [], _∷_}
+use mathlib.Core.Logic.{inl, inr}
+use Prim.Native.Nat.{ℕ, _+_, _-_, _*_, _/_, _≤_, _<_}
 use native.Mathlib.Omega.{arith}
 use lib.Dec.{ltb, eqb}
-use lib.ListN.{length, drop, length-set}
-use borrow.Author.Tests.{eq-eqb, ne-eqb, eqb-true, eqb-false, ltb-false, leb-true, not-false}
+use lib.ListN.{length}
+use borrow.Author.Tests.{ne-eqb, eqb-true, eqb-false, ltb-false, not-false}
 use Rattle.hexline.specs.Loops.{decide}
 use Rattle.hexline.specs.Digits.{between, byteAt}
 use Rattle.hexline.specs.DigitLaws.{between-true}
-use Rattle.hexline.specs.Lines.{Row, rows, lineLength}
-use Rattle.hexline.specs.LineLaws.{AllFalse, none-of, rowAt, rows-at, rows-none}
+use Rattle.hexline.specs.Lines.{Row}
+use Rattle.hexline.specs.LineLaws.{none-of}
 use Rattle.site.specs.declared.Tag.{Tag}
 use Rattle.site.specs.declared.Cluster.{Cluster}
-use Rattle.site.specs.declared.Flow.{Flow}
 use Rattle.site.specs.declared.Site.{Site}
 use Rattle.site.specs.declared.Entry.{Entry}
 use Rattle.site.specs.declared.Entry.the-variants.{Header, Cluster as ClusterLine, Flow as FlowLine, Refused as RefusedLine}
-use Rattle.site.specs.declared.Reading.{Reading}
-use Rattle.site.specs.Records.{noSite, headerOutside, clusterOutside, tagTaken, printableTag}
+use Rattle.site.specs.Records.{headerOutside, clusterOutside, tagTaken, printableTag}
 use Rattle.site.specs.Lines.{size, tagAt, clusterOf, flowOf}
 use Rattle.site.specs.Table.{lowest, due, wrongKind, wrongLength, outside, repeated, lineTests, recordOf, entryOf, refusal}
-use Rattle.site.specs.TableLaws.{lowest-none, lowest-kept, Place, header, cluster, flow, beyond, place}
-use Rattle.site.specs.Reading.{withHeader, withCluster, withFlow, refusalAt, entered, accepted, refused, readRows, readText}
+use Rattle.site.specs.TableLaws.{lowest-none, lowest-kept, header, cluster, flow, beyond, place}
+use Rattle.site.specs.Reading.{withHeader, withCluster, withFlow, refusalAt, entered, refused, readRows}
 
 abbrev IsRecord : Entry → Type 0
 IsRecord (Header a b) = Unit {0}

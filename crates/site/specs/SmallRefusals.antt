@@ -1,9 +1,9 @@
 -- Refusals are small numbers: 1 to 6, at a line of at most 194, which is the line after the last of the largest site.
-use mathlib.Core.Path.{_≡_, refl, sym, ap, _∙_}
+use mathlib.Core.Path.{_≡_}
 use mathlib.Core.Bool.{Bool, true, false, not}
 use mathlib.Core.List.{List, [], _∷_, _++_}
-use mathlib.Core.Logic.{_⊎_, inl, inr}
-use Prim.Native.Nat.{ℕ, zero, suc, _+_, _-_, _≤_, _<_}
+use mathlib.Core.Logic.{inl, inr}
+use Prim.Native.Nat.{ℕ, zero, suc, _+_, _-_, _≤_}
 use native.Mathlib.Omega.{arith}
 use lib.Dec.{ltb, eqb}
 use lib.ListN.{length, getD}
@@ -14,13 +14,12 @@ use Rattle.hexline.specs.DigitLaws.{between-true}
 use Rattle.hexline.specs.Lines.{Row, rows}
 use Rattle.hexline.specs.LineLaws.{none-of}
 use Rattle.site.specs.declared.Site.{Site}
-use Rattle.site.specs.declared.Flow.{Flow}
 use Rattle.site.specs.declared.Verdict.{Verdict}
 use Rattle.site.specs.declared.Verdict.the-variants.{Accepted, Refused}
 use Rattle.site.specs.Records.{noSite, noFlow, absent, headerOutside, clusterOutside, flowOutside, wrongParent, tagTaken}
 use Rattle.site.specs.Table.{lowest, due, wrongKind, outside, repeated, lineTests, refusal}
-use Rattle.site.specs.TableLaws.{lowest-none, Place, header, cluster, flow, beyond, place}
-use Rattle.site.specs.Reading.{withHeader, withCluster, withFlow, refusalAt, entered, accepted, refused, readRows, readText}
+use Rattle.site.specs.TableLaws.{lowest-none, header, cluster, flow, beyond, place}
+use Rattle.site.specs.Reading.{withHeader, withCluster, withFlow, refusalAt, entered, readRows, readText}
 use Rattle.site.specs.Check.{clusterRefusal, flowRefusal, firstBad, orElse, clustersVerdict, flowsVerdict, checked}
 
 -- a refusal of a text or of records

@@ -6,7 +6,6 @@ use lib.Dec.{leb, eqb}
 use Rattle.hexline.specs.Digits.{byteAt}
 use Rattle.hexline.specs.Lines.{Row, anyOf, malformed}
 use Rattle.site.specs.declared.Cluster.{Cluster}
-use Rattle.site.specs.declared.Flow.{Flow}
 use Rattle.site.specs.declared.Entry.{Entry}
 use Rattle.site.specs.declared.Entry.the-variants.{Header, Cluster as ClusterLine, Flow as FlowLine, Refused as RefusedLine}
 use Rattle.site.specs.Records.{headerOutside, clusterOutside, flowOutside, wrongParent, tagTaken}

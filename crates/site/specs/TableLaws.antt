@@ -1,19 +1,18 @@
 -- Laws of the table: which kind is due, what it means that no test holds, and the line reader's answer test by test.
-use mathlib.Core.Path.{_≡_, refl, sym, ap, _∙_}
-use mathlib.Core.Bool.{Bool, true, false, not}
+use mathlib.Core.Path.{_≡_, refl, sym, _∙_}
+use mathlib.Core.Bool.{Bool, true, false}
 use mathlib.Core.List.{List, [], _∷_, _++_}
-use mathlib.Core.Logic.{_⊎_, inl, inr}
+use mathlib.Core.Logic.{inl, inr}
 use Prim.Native.Nat.{ℕ, suc, _+_, _-_, _≤_, _<_}
 use native.Mathlib.Omega.{arith}
-use lib.Dec.{leb, eqb}
-use borrow.Author.Tests.{leb-true, leb-false, eqb-true, eqb-false, eq-eqb, ne-eqb, not-false}
+use lib.Dec.{leb}
+use borrow.Author.Tests.{leb-true, leb-false, eq-eqb, ne-eqb}
 use Rattle.hexline.specs.Loops.{decide}
 use Rattle.hexline.specs.Digits.{byteAt}
 use Rattle.hexline.specs.Lines.{Row, malformed}
-use Rattle.hexline.specs.LineLaws.{AllFalse, none-of}
+use Rattle.hexline.specs.LineLaws.{AllFalse}
 use Rattle.site.specs.declared.Entry.the-variants.{Refused as RefusedLine}
-use Rattle.site.specs.Lines.{size}
-use Rattle.site.specs.Table.{lowest, due, wrongKind, wrongLength, outside, misplaced, recordOf, entryOf, fieldsOf}
+use Rattle.site.specs.Table.{lowest, due, wrongKind, outside, entryOf, fieldsOf}
 
 pub lowest-none : (m : ℕ) (ts : List Bool) → lowest (suc m) ts ≡ 0 → AllFalse ts
 lowest-none m [] e = tt

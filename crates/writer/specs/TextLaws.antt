@@ -1,18 +1,17 @@
 -- Laws of the text: how long its lines are, what is left of them as they are written one by one, and the whole text in the room.
-use mathlib.Core.Path.{_≡_, refl, sym, ap, _∙_}
+use mathlib.Core.Path.{_≡_, sym, ap, _∙_}
 use mathlib.Core.List.{List, [], _∷_, _++_, append-assoc}
 use mathlib.Core.Logic.{inl, inr}
-use Prim.Native.Nat.{ℕ, _+_, _*_, _≤_, _<_, min}
-use native.Mathlib.Numerals.{add-one}
+use Prim.Native.Nat.{ℕ, _+_, _*_, _≤_, min}
 use native.Mathlib.Omega.{arith}
-use lib.ListN.{length, getD, take, length-append, length-take}
-use lib.Seq.{slice, slice-cons, slice-empty, length-take-le, take-all}
+use lib.ListN.{length, take, length-append, length-take}
+use lib.Seq.{length-take-le, take-all}
 use lib.Dec.{leb}
 use borrow.Author.Tests.{leb-true, leb-false}
 use Rattle.hexline.specs.Loops.{decide}
 use Rattle.hexline.specs.Digits.{numberBytes, fieldBytes, lineOf}
 use Rattle.hexline.specs.Listing.{linesOf}
-use Rattle.hexline.specs.Room.{put, put-append, put-none, put-length, line-length}
+use Rattle.hexline.specs.Room.{put, put-append, line-length}
 use Rattle.site.specs.declared.Cluster.{Cluster}
 use Rattle.site.specs.declared.Flow.{Flow}
 use Rattle.site.specs.declared.Site.{Site}

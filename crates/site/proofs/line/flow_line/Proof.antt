@@ -1,5 +1,5 @@
 -- `site::line::flow_line` meets its contract: the tests stand in the table's order, and each return computes by those on the way.
-use borrow.Author.Tests.{lt-leb, le-leb, lt-ltb, le-ltb, eq-eqb, ne-eqb}
+use borrow.Author.Tests.{lt-leb, le-leb, eq-eqb, ne-eqb}
 use Rattle.site.specs.Records.{flowOutside}
 use Rattle.site.specs.Lines.{size, flowOf}
 use Rattle.site.specs.Table.{wrongLength, outside, misplaced, recordOf, fieldsOf}

@@ -1,6 +1,5 @@
 -- `site::line::read_line` meets its contract: the tests stand in the order of their numbers, and each return is the law of the test that led there.
-use mathlib.Core.Path.{_≡_, sym, _∙_}
-use Prim.Native.Nat.{ℕ}
+use mathlib.Core.Path.{sym, _∙_}
 use native.Mathlib.Omega.{arith}
 use Rattle.hexline.specs.LineLaws.{well-formed}
 use Rattle.site.specs.TableLaws.{due-cluster, due-flow, entry-malformed, entry-none-due, entry-other-kind, entry-fields, header-alone, cluster-alone}
