@@ -1,0 +1,2 @@
+pub mod PlanText
+pub mod PlanTextLaws
