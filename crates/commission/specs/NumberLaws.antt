@@ -1,0 +1,104 @@
+-- Laws of the numbers: what each verdict of the reader makes of them, and that lengths and lines are small enough for one number.
+use mathlib.Core.Path.{_≡_, refl, sym, ap, _∙_, subst}
+use mathlib.Core.Bool.{Bool, true, false, cond}
+use mathlib.Core.List.{List}
+use mathlib.Core.Logic.{inl, inr}
+use Prim.Native.Nat.{ℕ, _≤_}
+use native.Mathlib.Omega.{arith}
+use lib.Dec.{leb}
+use lib.ListN.{length}
+use Rattle.hexline.specs.Loops.{decide}
+use Rattle.site.specs.declared.Site.{Site}
+use Rattle.site.specs.declared.Verdict.{Verdict}
+use Rattle.site.specs.declared.Verdict.the-variants.{Accepted, Refused}
+use Rattle.site.specs.declared.Reading.{Reading}
+use Rattle.site.specs.Check.{checked}
+use Rattle.site.specs.Reading.{accepted, readText}
+use Rattle.site.specs.SmallRefusals.{Small, text-refusal-small}
+use Rattle.writer.specs.declared.Written.{Written}
+use Rattle.writer.specs.declared.Written.the-variants.{Length, Refused as RefusedWriting}
+use Rattle.writer.specs.Text.{textOf, written, roomAfter as writtenRoom}
+use Rattle.planner.specs.declared.Planned.{Planned}
+use Rattle.planner.specs.declared.Planned.the-variants.{Plan, Refused as RefusedPlan}
+use Rattle.planner.specs.Answers.{outcomeAnswer, answer, roomAfter}
+use Rattle.planner.specs.SequenceLaws.{planned-fresh}
+use Rattle.planner.specs.SiteLaws.{counts-bounded, clusters-counted}
+use Rattle.plantext.specs.PlanText.{siteOf, planText, Placed}
+use Rattle.plantext.specs.PlanTextLaws.{text-bounded}
+use Rattle.model.specs.Plans.{Outcome, planned, noFit, noPlacing, plan}
+use Rattle.roundtrip.specs.WriteOfRead.{write-of-read}
+use Rattle.roundtrip.specs.LongestSite.{longest-site}
+use Rattle.commission.specs.Numbers.{refusalNumber, plannedNumber, writtenNumber, planNumber, planRoom, rewriteNumber, rewriteRoom}
+
+-- an answer of the writer whose length or line is small
+abbrev pub SmallWriting : Written → Type 0
+SmallWriting (Length n) = n ≤ 11721
+SmallWriting (RefusedWriting number line) = line ≤ 194
+
+-- an answer of the planner likewise
+abbrev pub SmallPlan : Planned → Type 0
+SmallPlan (Plan n order) = n ≤ 9673
+SmallPlan (RefusedPlan number line) = line ≤ 194
+
+module _ (s : Site) (checks : checked s ≡ Accepted) (n : ℕ) where
+  outcome-small : (o : Outcome) → plan (siteOf s) ≡ o → SmallPlan (outcomeAnswer s o n)
+  outcome-small noFit e = omega arith
+  outcome-small noPlacing e = omega arith
+  outcome-small (planned order sequence) e =
+      let fresh = planned-fresh (siteOf s) order sequence e in
+      let count = clusters-counted s checks in
+      let placed : Placed s sequence = record { accepted = checks; fresh = rw count at (fresh .0); short = omega (arith, counts-bounded s checks) } in
+      elim (decide (leb (length (planText s order sequence)) n)) [ inl f ↦ rw f (text-bounded s order sequence placed) | inr f ↦ rw f (omega arith) ]
+
+  pub answer-small : SmallPlan (answer s n)
+  unfolding answer
+  answer-small = rw checks (outcome-small (plan (siteOf s)) refl)
+
+module _ (t : List ℕ) (reading : Reading) (read : reading ≡ readText t) where
+  verdict-is : (v : Verdict) → reading .verdict ≡ v → readText t .verdict ≡ v
+  verdict-is v e = ap (λ (r : Reading). r .verdict) (sym read) ∙ e
+
+  module _ (number line : ℕ) (refused : reading .verdict ≡ Refused number line) where
+    pub refused-line-small : line ≤ 194
+    refused-line-small = subst Small (verdict-is (Refused number line) refused) (text-refusal-small t) .1
+
+    pub plan-refused : (room : List ℕ) → (refusalNumber number line ≡ planNumber t (length room)) × (room ≡ planRoom t room)
+    unfolding planNumber planRoom
+    plan-refused room = let v = verdict-is (Refused number line) refused in (rw v, rw v)
+
+    pub rewrite-refused : (room : List ℕ) → (refusalNumber number line ≡ rewriteNumber t (length room)) × (room ≡ rewriteRoom t room)
+    unfolding rewriteNumber rewriteRoom
+    rewrite-refused room = let v = verdict-is (Refused number line) refused in (rw v, rw v)
+
+  module _ (taken : reading .verdict ≡ Accepted) where
+    abbrev s : Site
+    s = reading .site
+
+    text-taken : readText t ≡ accepted s
+    text-taken = sym read ∙ ap (λ (v : Verdict). record { site = s; verdict = v }) taken
+
+    pub records-checked : checked s ≡ Accepted
+    records-checked = write-of-read t s text-taken .0
+
+    pub plan-taken : (room : List ℕ) → (plannedNumber (answer s (length room)) ≡ planNumber t (length room)) × (roomAfter s room ≡ planRoom t room)
+    unfolding planNumber planRoom
+    plan-taken room = (rw text-taken, rw text-taken)
+
+    pub plan-small : (n : ℕ) → SmallPlan (answer s n)
+    plan-small n = answer-small s records-checked n
+
+    pub rewrite-taken : (room : List ℕ)
+        → (writtenNumber (written (checked s) (textOf s) (length room)) ≡ rewriteNumber t (length room)) × (writtenRoom (checked s) (textOf s) room ≡ rewriteRoom t room)
+    unfolding rewriteNumber rewriteRoom
+    rewrite-taken room = (rw text-taken, rw text-taken)
+
+    pub written-small : (n : ℕ) → SmallWriting (written (checked s) (textOf s) n)
+    unfolding written
+    written-small n =
+        let fits : length (textOf s) ≤ 11721 = rw (write-of-read t s text-taken .1) (longest-site t s text-taken) in
+        rw records-checked (elim (decide (leb (length (textOf s)) n)) [ inl e ↦ rw e fits | inr e ↦ rw e (omega arith) ])
+
+-- what is the same on both sides of a test
+pub either-way : {A : Type 0} (b : Bool) (x p q : A) → x ≡ p → x ≡ q → x ≡ cond b p q
+either-way true x p q e f = e
+either-way false x p q e f = f

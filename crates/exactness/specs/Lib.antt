@@ -1,0 +1,13 @@
+-- a plan text as a stranger reads it
+pub mod PlanRead
+-- laws that the theorems use
+pub mod SoundRecords
+pub mod SameStarts
+pub mod EachOnce
+pub mod PlanReadLaws
+pub mod LongestPlan
+-- the theorems: the planner and the C caller's number are exact, no impostor meets the contract, and a contract allows one result
+pub mod PlannerExact
+pub mod CallerExact
+pub mod Impostors
+pub mod EqualResults

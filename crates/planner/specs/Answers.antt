@@ -1,0 +1,44 @@
+-- What the planner answers to records and leaves in the lent room (document 01, "The plan that is returned" and "Refusal numbers"): 4, 5 and 6 as the site
+-- writer gives them, then 7, 8 and 9 with line 0, else the plan text.
+use mathlib.Core.Bool.{cond}
+use mathlib.Core.List.{List}
+use Prim.Native.Nat.{ℕ}
+use lib.ListN.{length}
+use lib.Dec.{leb}
+use Rattle.hexline.specs.Room.{handed}
+use Rattle.model.specs.Plans.{Outcome, planned, noFit, noPlacing, plan}
+use Rattle.site.specs.declared.Site.{Site}
+use Rattle.site.specs.declared.Verdict.{Verdict}
+use Rattle.site.specs.declared.Verdict.the-variants.{Accepted, Refused}
+use Rattle.site.specs.Check.{checked}
+use Rattle.plantext.specs.PlanText.{siteOf, planText}
+use Rattle.planner.specs.declared.Planned.{Planned}
+use Rattle.planner.specs.declared.Planned.the-variants.{Plan, Refused as RefusedPlan}
+
+-- the answer to accepted records, by the model's plan of the site that they describe, in a room of so many bytes
+abbrev pub outcomeAnswer : Site → Outcome → ℕ → Planned
+outcomeAnswer s (planned order sequence) room = cond (leb (length (planText s order sequence)) room) (Plan (length (planText s order sequence)) order) (RefusedPlan 9 0)
+outcomeAnswer s noFit room = RefusedPlan 7 0
+outcomeAnswer s noPlacing room = RefusedPlan 8 0
+
+-- and the room after it
+abbrev pub outcomeRoom : Site → Outcome → List ℕ → List ℕ
+outcomeRoom s (planned order sequence) room = handed (planText s order sequence) room
+outcomeRoom s noFit room = room
+outcomeRoom s noPlacing room = room
+
+abbrev verdictAnswer : Site → Verdict → ℕ → Planned
+verdictAnswer s (Refused number line) room = RefusedPlan number line
+verdictAnswer s Accepted room = outcomeAnswer s (plan (siteOf s)) room
+
+abbrev verdictRoom : Site → Verdict → List ℕ → List ℕ
+verdictRoom s (Refused number line) room = room
+verdictRoom s Accepted room = outcomeRoom s (plan (siteOf s)) room
+
+-- the planner's answer to any records, in a room of so many bytes
+unfoldable pub answer : Site → ℕ → Planned
+answer s room = verdictAnswer s (checked s) room
+
+-- and the room after it
+unfoldable pub roomAfter : Site → List ℕ → List ℕ
+roomAfter s room = verdictRoom s (checked s) room

@@ -1,0 +1,6 @@
+pub mod Answers
+pub mod Schedules
+pub mod Numbers
+pub mod NumberLaws
+pub mod SiteLaws
+pub mod SequenceLaws

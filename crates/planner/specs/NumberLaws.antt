@@ -1,0 +1,98 @@
+-- What the loops over the records want: a filled array is a field of the records, one portion and one period more, and the depths of a path's top and its sink.
+use mathlib.Core.Path.{_≡_, sym, ap, _∙_}
+use mathlib.Core.List.{List, map}
+use mathlib.Core.Logic.{inl, inr}
+use Prim.Native.Nat.{ℕ, zero, suc, _+_, _-_, _≤_, _<_, min}
+use native.Mathlib.Numerals.{add-one}
+use native.Mathlib.Omega.{arith}
+use lib.Dec.{ltb, eqb}
+use lib.ListN.{length, getD, take, drop, length-map, List·getD-map, drop-of-length-le}
+use lib.Seq.{ext-getD, getD-take, length-take-le}
+use borrow.Author.Tests.{ltb-true, ltb-false, eqb-true, eqb-false}
+use Rattle.hexline.specs.Loops.{filled, filled-length, filled-at}
+use Rattle.model.specs.Counting.{at, sumBelow}
+use Rattle.model.specs.CountingLaws.{passes-or-fails, values-length, values-at}
+use Rattle.model.specs.Orders.{shortest}
+use Rattle.model.specs.PlanLaws.{shortest-next}
+use Rattle.model.specs.Trees.{Tree, depth, top}
+use Rattle.model.specs.TreeLaws.{depth-step, top-same, top-first-up, top-second-up}
+use Rattle.site.specs.declared.Flow.{Flow}
+use Rattle.site.specs.Records.{noFlow}
+use Rattle.planner.specs.Numbers.{periodsOf, descentAt, FlowsInTree}
+
+-- the part of a filled array that counts, where it was filled with h of each element
+pub filled-is-map : {A : Type 0} (g : ℕ → ℕ) (h : A → ℕ) (l : List ℕ) (xs : List A) (d : A) (n : ℕ) → n ≤ length l → length xs ≡ n
+    → ((i : ℕ) → i < n → g i ≡ h (getD xs i d)) → take n (filled g l n) ≡ map h xs
+filled-is-map g h l xs d n room e same =
+    let first : length (take n (filled g l n)) ≡ n = length-take-le n (filled g l n) (omega (arith, filled-length g l n)) in
+    ext-getD (h d) (take n (filled g l n)) (map h xs) (first ∙ sym e ∙ sym (length-map xs h)) (λ i p.
+    let below : i < n = omega arith in
+    getD-take n (filled g l n) i (h d) below ∙ filled-at g l n (h d) room i below ∙ same i below ∙ sym (List·getD-map h xs i d))
+
+pub sum-next : (f : ℕ → ℕ) (i : ℕ) → sumBelow (i + 1) f ≡ f i + sumBelow i f
+unfolding sumBelow
+sum-next f i = rw (add-one, sumBelow)
+
+-- the least of p and the periods of the flows from i on
+module _ (flows : List Flow) (n i p : ℕ) where
+  pub shortest-more : i < n → n ≤ length flows → (q : ℕ) → q ≡ min p (getD flows i noFlow .period) → shortest q (drop (i + 1) (periodsOf flows n)) ≡ shortest p (drop i (periodsOf flows n))
+  unfolding periodsOf
+  shortest-more l h q e =
+      let number : length (periodsOf flows n) ≡ n = length-map (take n flows) (λ (f : Flow). f .period) ∙ length-take-le n flows h in
+      let here : at (periodsOf flows n) i ≡ getD flows i noFlow .period =
+      List·getD-map (λ (f : Flow). f .period) (take n flows) i noFlow ∙ ap (λ (f : Flow). f .period) (getD-take n flows i noFlow l) in
+      ap (λ (x : ℕ). shortest x (drop (i + 1) (periodsOf flows n))) (e ∙ ap (min p) (sym here)) ∙ sym (shortest-next p (periodsOf flows n) i (omega arith))
+
+  pub shortest-ends : n ≤ i → n ≤ length flows → shortest p (drop i (periodsOf flows n)) ≡ p
+  unfolding periodsOf shortest
+  shortest-ends l h = rw (drop-of-length-le (periodsOf flows n) {i = i} (omega (arith, length-map (take n flows) (λ (f : Flow). f .period), length-take-le n flows h)))
+
+-- the top of a path is a cluster, and not deeper than the path's end
+module _ (parent : ℕ → ℕ) (n : ℕ) (tree : Tree parent n) where
+  abbrev Above : ℕ → ℕ → Type 0
+  Above z b = (z < n) × (depth parent z ≤ depth parent b)
+
+  above-within : (k a b : ℕ) → a + b ≤ k → a < n → b < n → Above (top parent a b) b
+  above-within zero a b m la lb = let e : a ≡ b = omega arith in rw (e, top-same parent n tree b) (lb, omega arith)
+  above-within (suc k) a b m la lb = elim (passes-or-fails (eqb a b)) [
+    | inl e ↦ rw (eqb-true a b e, top-same parent n tree b) (lb, omega arith)
+    | inr e ↦ let ne = eqb-false a b e in elim (passes-or-fails (ltb b a)) [
+      | inl f ↦ let h = ltb-true b a f in let t = tree a (omega arith) la in
+          rw (top-first-up parent n tree a b la lb h) (above-within k (parent a) b (omega arith) (omega arith) lb)
+      | inr f ↦ let h = ltb-false b a f in let t = tree b (omega arith) lb in
+          let up = above-within k a (parent b) (omega arith) la (omega arith) in
+          rw (top-second-up parent n tree a b la lb (omega arith)) (up .0, omega (arith, up .1, depth-step parent n tree b (omega arith) lb))
+    ]
+  ]
+
+  pub top-above : (a b : ℕ) → a < n → b < n → Above (top parent a b) b
+  top-above a b la lb = above-within (a + b) a b (omega arith) la lb
+
+-- flow i of a tree's flows, between the clusters a and b
+module _ (parents depths sources sinks : List ℕ) (w : FlowsInTree parents depths sources sinks) where
+  abbrev n : ℕ
+  n = length parents
+
+  pub depths-reach : length depths ≡ n
+  depths-reach = ap length (w .deep) ∙ values-length (depth (at parents)) 0 n
+
+  depth-here : (c : ℕ) → c < n → at depths c ≡ depth (at parents) c
+  depth-here c l = ap (λ (ds : List ℕ). at ds c) (w .deep) ∙ values-at (depth (at parents)) 0 n c l ∙ ap (depth (at parents)) (omega arith)
+
+  module _ (i a b : ℕ) (l : i < length sources) (p : a ≡ at sources i) (q : b ≡ at sinks i) where
+    pub ends-here : (a < n) × (b < n)
+    ends-here = let e = w .ends i l in (omega (arith, e .0), omega (arith, e .1))
+
+    module _ (z : ℕ) (r : z ≡ top (at parents) a b) where
+      pub top-here : (z < n) × (at depths z ≤ at depths b)
+      top-here =
+          let above = top-above (at parents) n (w .tree) a b (ends-here .0) (ends-here .1) in
+          let there : z < n = rw r (above .0) in
+          (there, omega (arith, depth-here z there, depth-here b (ends-here .1), rw (sym r) at (above .1)))
+
+      pub descent-here : at depths b - at depths z ≡ descentAt parents sources sinks i
+      unfolding descentAt
+      descent-here =
+          let sink : at depths b ≡ depth (at parents) (at sinks i) = depth-here b (ends-here .1) ∙ rw q in
+          let above : at depths z ≡ depth (at parents) (top (at parents) (at sources i) (at sinks i)) = depth-here z (top-here .0) ∙ rw (r, p, q) in
+          rw (sink, above)

@@ -1,0 +1,182 @@
+-- Accepted records describe a sound site, and the numbers taken from them are that site's.
+use mathlib.Core.Path.{_≡_, refl, sym, ap, _∙_}
+use mathlib.Core.List.{List, [], _∷_, map}
+use mathlib.Core.Logic.{inl, inr}
+use Prim.Native.Nat.{ℕ, zero, suc, _≤_, _<_}
+use native.Mathlib.Omega.{arith}
+use lib.ListN.{length, getD, take, replicate, length-map, List·getD-map}
+use lib.Seq.{getD-take, length-take-le}
+use borrow.Author.Tests.{leb-true, leb-false, le-leb, ne-eqb}
+use Rattle.hexline.specs.Loops.{filled}
+use Rattle.model.specs.Constraints.{descent}
+use Rattle.model.specs.Counting.{Each, at, sumBelow, values}
+use Rattle.model.specs.CountingLaws.{passes-or-fails, each-map, sum-same}
+use Rattle.model.specs.Orders.{largest, interval, isOrder, withinAll, permitted, portion, shortest}
+use Rattle.model.specs.OrderLaws.{symbols-bounded, shortest-decides}
+use Rattle.model.specs.Relaxing.{depths}
+use Rattle.model.specs.Sites as model
+use Rattle.model.specs.Trees.{depth}
+use Rattle.plantext.specs.PlanText.{flowOf, siteOf}
+use Rattle.plantext.specs.PlanTextLaws.{order-at}
+use Rattle.search.specs.Posed.{Posed}
+use Rattle.site.specs.declared.Cluster.{Cluster}
+use Rattle.site.specs.declared.Flow.{Flow}
+use Rattle.site.specs.declared.Site.{Site}
+use Rattle.site.specs.declared.Verdict.the-variants.{Accepted}
+use Rattle.site.specs.Check.{checked}
+use Rattle.site.specs.Checked.{checked-sound, counts-in, cluster-tests, site-cluster-in, site-flow-in, clusters-reach, flows-reach}
+use Rattle.site.specs.Records.{absent, noFlow, wrongParent}
+use Rattle.planner.specs.Numbers.{periodsOf, descentAt, FlowsInTree}
+use Rattle.planner.specs.NumberLaws.{filled-is-map}
+
+-- ## Lists
+
+each-first : {A : Type 0} (P : A → Type 0) (xs : List A) (n : ℕ) (d : A) → n ≤ length xs → ((i : ℕ) → i < n → P (getD xs i d)) → Each P (take n xs)
+each-first P [] zero d h p = tt
+each-first P (x ∷ xs) zero d h p = tt
+each-first P [] (suc n) d h p = absurd (omega arith)
+each-first P (x ∷ xs) (suc n) d h p = (p 0 (omega arith), each-first P xs n d (omega arith) (λ i l. p (suc i) (omega arith)))
+
+-- ## Periods
+
+map-of-map : (fs : List Flow) → map (λ (f : Flow). f .period) fs ≡ map (λ f. f .period) (map flowOf fs)
+map-of-map [] = refl
+map-of-map (f ∷ fs) = ap (λ (l : List ℕ). f .period ∷ l) (map-of-map fs)
+
+-- a period that no interval exceeds decides nothing
+long-period : (o p : ℕ) (ps : List ℕ) → 15728640 ≤ p → permitted o (p ∷ ps) ≡ permitted o ps
+unfolding permitted withinAll isOrder
+long-period o p ps h = elim (passes-or-fails (isOrder o)) [
+  | inr e ↦ rw (e, permitted)
+  | inl e ↦ rw (le-leb (interval o) p (omega (arith, symbols-bounded (leb-true o largest e))))
+]
+
+-- ## The site that accepted records describe
+
+module _ (s : Site) (accepted : checked s ≡ Accepted) where
+  abbrev n : ℕ
+  n = s .«cluster_count»
+
+  abbrev f : ℕ
+  f = s .«flow_count»
+
+  abbrev m : model.Site
+  m = siteOf s
+
+  pub clusters-whole : n ≤ length (s .clusters)
+  clusters-whole = clusters-reach s (checked-sound s accepted)
+
+  pub flows-whole : f ≤ length (s .flows)
+  flows-whole = flows-reach s (checked-sound s accepted)
+
+  pub counts-bounded : (1 ≤ n) × (n ≤ 64) × (f ≤ 128)
+  counts-bounded = let c = counts-in s (checked-sound s accepted) in (c .some, c .clusters, c .flows)
+
+  pub orders-bounded : (c : ℕ) → c < n → getD (s .clusters) c absent .order ≤ 14
+  orders-bounded c l = site-cluster-in s (checked-sound s accepted) c l .order
+
+  pub clusters-counted : model.size m ≡ n
+  unfolding siteOf
+  clusters-counted = length-map (take n (s .clusters)) (λ (c : Cluster). c .parent) ∙ length-take-le n (s .clusters) clusters-whole
+
+  pub flows-counted : length (m .flows) ≡ f
+  unfolding siteOf
+  flows-counted = length-map (take f (s .flows)) flowOf ∙ length-take-le f (s .flows) flows-whole
+
+  parent-at : (c : ℕ) → c < n → model.parent m c ≡ getD (s .clusters) c absent .parent
+  unfolding siteOf
+  parent-at c l = List·getD-map (λ (k : Cluster). k .parent) (take n (s .clusters)) c absent ∙ ap (λ (k : Cluster). k .parent) (getD-take n (s .clusters) c absent l)
+
+  flow-at : (i : ℕ) → i < f → getD (m .flows) i (flowOf noFlow) ≡ flowOf (getD (s .flows) i noFlow)
+  unfolding siteOf
+  flow-at i l = List·getD-map flowOf (take f (s .flows)) i noFlow ∙ ap flowOf (getD-take f (s .flows) i noFlow l)
+
+  source-at : (i : ℕ) → i < f → at (map (λ g. g .source) (m .flows)) i ≡ getD (m .flows) i (flowOf noFlow) .source
+  source-at i l = List·getD-map (λ g. g .source) (m .flows) i (flowOf noFlow)
+
+  sink-at : (i : ℕ) → i < f → at (map (λ g. g .sink) (m .flows)) i ≡ getD (m .flows) i (flowOf noFlow) .sink
+  sink-at i l = List·getD-map (λ g. g .sink) (m .flows) i (flowOf noFlow)
+
+  periods-are : periodsOf (s .flows) f ≡ model.periods m
+  unfolding siteOf periodsOf
+  periods-are = map-of-map (take f (s .flows))
+
+  parent-lower : (c : ℕ) → 0 < c → c < n → getD (s .clusters) c absent .parent < c
+  unfolding wrongParent
+  parent-lower c p l =
+      let right = cluster-tests s (checked-sound s accepted) c l .1 in
+      leb-false c _ (rw (ne-eqb c 0 (λ e. omega arith)) at right)
+
+  ends-there : (i : ℕ) → i < f → let g = getD (s .flows) i noFlow in (g .source < n) × (g .sink < n)
+  ends-there i l = let g = site-flow-in s (checked-sound s accepted) i l in (g .source, g .sink)
+
+  pub describes-sound : model.Sound m
+  unfolding siteOf
+  describes-sound = record {
+    some-cluster = omega (arith, clusters-counted, counts-bounded .0);
+    tree = λ c p l. let here : c < n = omega (arith, clusters-counted) in rw (parent-at c here) (parent-lower c p here);
+    ends = each-map flowOf _ (take f (s .flows)) (each-first _ (s .flows) f noFlow flows-whole (λ i l. rw clusters-counted (ends-there i l)));
+  }
+
+  -- ## Its numbers
+
+  module _ (k : ℕ) (e : k ≡ n) where
+    pub parents-are : (ps : List ℕ) → ps ≡ filled (λ i. getD (s .clusters) i absent .parent) (replicate 64 0) k → take k ps ≡ m .parents
+    unfolding siteOf
+    parents-are ps q = rw (q, e) (filled-is-map _ (λ (c : Cluster). c .parent) (replicate 64 0) (take n (s .clusters)) absent n
+        (omega (arith, counts-bounded .1))
+        (length-take-le n (s .clusters) clusters-whole)
+        (λ i l. ap (λ (c : Cluster). c .parent) (sym (getD-take n (s .clusters) i absent l))))
+
+    pub total-is : (total : ℕ) → total ≡ sumBelow k (λ c. portion (getD (s .clusters) c absent .order)) → total ≡ sumBelow (model.size m) (model.portionOf m)
+    total-is total q = q ∙ rw (e, clusters-counted) (sum-same n _ (model.portionOf m) (λ c l. ap portion (sym (order-at s c l))))
+
+  module _ (j : ℕ) (e : j ≡ f) where
+    field-is : (h : model.Flow → ℕ) (g : ℕ → ℕ) (xs : List ℕ) → xs ≡ filled g (replicate 128 0) j → ((i : ℕ) → i < f → g i ≡ h (flowOf (getD (s .flows) i noFlow))) → take j xs ≡ map h (m .flows)
+    field-is h g xs q same = rw (q, e) (filled-is-map g h (replicate 128 0) (m .flows) (flowOf noFlow) f (omega (arith, counts-bounded .2)) flows-counted (λ i l. same i l ∙ ap h (sym (flow-at i l))))
+
+    pub sources-are : (xs : List ℕ) → xs ≡ filled (λ i. getD (s .flows) i noFlow .source) (replicate 128 0) j → take j xs ≡ map (λ g. g .source) (m .flows)
+    sources-are xs q = field-is (λ g. g .source) _ xs q (λ i l. refl)
+
+    pub sinks-are : (xs : List ℕ) → xs ≡ filled (λ i. getD (s .flows) i noFlow .sink) (replicate 128 0) j → take j xs ≡ map (λ g. g .sink) (m .flows)
+    sinks-are xs q = field-is (λ g. g .sink) _ xs q (λ i l. refl)
+
+    pub deadlines-are : (xs : List ℕ) → xs ≡ filled (λ i. getD (s .flows) i noFlow .deadline) (replicate 128 0) j → take j xs ≡ map (λ g. g .deadline) (m .flows)
+    deadlines-are xs q = field-is (λ g. g .deadline) _ xs q (λ i l. refl)
+
+    pub descents-are : (ps ss ts xs : List ℕ) → ps ≡ m .parents → ss ≡ map (λ g. g .source) (m .flows) → ts ≡ map (λ g. g .sink) (m .flows)
+        → xs ≡ filled (descentAt ps ss ts) (replicate 128 0) (length ss) → take j xs ≡ map (descent m) (m .flows)
+    unfolding descentAt descent
+    descents-are ps ss ts xs p a b q =
+        let number : length ss ≡ j = ap length a ∙ length-map (m .flows) (λ g. g .source) ∙ flows-counted ∙ sym e in
+        field-is (descent m) (descentAt ps ss ts) xs (q ∙ ap (filled (descentAt ps ss ts) (replicate 128 0)) number) (λ i l. rw (p, a, b, source-at i l, sink-at i l, flow-at i l))
+
+    pub permits-alike : (least : ℕ) → least ≡ shortest 1000000000 (periodsOf (s .flows) j) → (o : ℕ) → permitted o (least ∷ []) ≡ permitted o (model.periods m)
+    permits-alike least q o =
+        let all : periodsOf (s .flows) j ≡ model.periods m = rw e periods-are in
+        ap (λ (p : ℕ). permitted o (p ∷ [])) q ∙ sym (shortest-decides o 1000000000 (periodsOf (s .flows) j)) ∙ long-period o 1000000000 (periodsOf (s .flows) j) (omega arith) ∙ ap (permitted o) all
+
+  module _ (ps ls ss ts : List ℕ) (p : ps ≡ m .parents) (d : ls ≡ values (depth (at ps)) 0 (length ps)) (a : ss ≡ map (λ g. g .source) (m .flows)) (b : ts ≡ map (λ g. g .sink) (m .flows)) where
+    pub flows-in-tree : FlowsInTree ps ls ss ts
+    flows-in-tree = record {
+      few = rw p (omega (arith, clusters-counted, counts-bounded .1));
+      tree = rw p (describes-sound .tree);
+      deep = d;
+      not-many = rw a (omega (arith, length-map (m .flows) (λ g. g .source), flows-counted, counts-bounded .2));
+      paired = rw (a, b) (length-map (m .flows) (λ g. g .sink) ∙ sym (length-map (m .flows) (λ g. g .source)));
+      ends = λ i l. let here : i < f = omega (arith, ap length a, length-map (m .flows) (λ g. g .source), flows-counted) in rw (p, a, b, source-at i here, sink-at i here, flow-at i here, clusters-counted) (ends-there i here);
+    }
+
+    pub site-posed : (ds es : List ℕ) → ds ≡ map (descent m) (m .flows) → es ≡ map (λ g. g .deadline) (m .flows) → Posed m ps ss ts ds es ls
+    unfolding depths
+    site-posed ds es x y = record {
+      sound = describes-sound;
+      few = omega (arith, clusters-counted, counts-bounded .1);
+      not-many = omega (arith, flows-counted, counts-bounded .2);
+      parents-are = p;
+      sources-are = a;
+      sinks-are = b;
+      descents-are = x;
+      deadlines-are = y;
+      levels-are = d ∙ rw p;
+    }
