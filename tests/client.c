@@ -153,7 +153,7 @@ int main(void)
     check(site_len == CARTHERON_LONGEST_SITE, "the longest site");
     size_t used = stack_of(planning) - stack_of(idle);
     check(answer == 65536u * CARTHERON_NO_PLACING, "the largest site is refused by 8 after all orders");
-    check(used <= 32 * 1024, "the stack under cartheron_plan is at most 32 KiB");
+    check(used <= 24 * 1024, "the stack under cartheron_plan is at most 24 KiB");
     printf("stack under cartheron_plan: %zu bytes\n", used);
     printf("client: %d passed, %d failed\n", passed, failed);
     return failed != 0;

@@ -8,19 +8,21 @@ use native.Mathlib.Omega.{arith}
 use lib.Dec.{leb}
 use lib.ListN.{length}
 use Rattle.hexline.specs.Loops.{decide}
+use Rattle.hexline.specs.Room.{handed}
 use Rattle.site.specs.declared.Site.{Site}
 use Rattle.site.specs.declared.Verdict.{Verdict}
 use Rattle.site.specs.declared.Verdict.the-variants.{Accepted, Refused}
 use Rattle.site.specs.declared.Reading.{Reading}
 use Rattle.site.specs.Check.{checked}
+use Rattle.site.specs.CheckLaws.{accepted-counts}
 use Rattle.site.specs.Reading.{accepted, readText}
 use Rattle.site.specs.SmallRefusals.{Small, text-refusal-small}
 use Rattle.writer.specs.declared.Written.{Written}
 use Rattle.writer.specs.declared.Written.the-variants.{Length, Refused as RefusedWriting}
-use Rattle.writer.specs.Text.{textOf, written, roomAfter as writtenRoom}
+use Rattle.writer.specs.Text.{textOf, fitting, written, roomAfter as writtenRoom}
 use Rattle.planner.specs.declared.Planned.{Planned}
 use Rattle.planner.specs.declared.Planned.the-variants.{Plan, Refused as RefusedPlan}
-use Rattle.planner.specs.Answers.{outcomeAnswer, answer, roomAfter}
+use Rattle.planner.specs.Answers.{outcomeAnswer, outcomeRoom, answer, roomAfter}
 use Rattle.planner.specs.SequenceLaws.{planned-fresh}
 use Rattle.planner.specs.SiteLaws.{counts-bounded, clusters-counted}
 use Rattle.plantext.specs.PlanText.{siteOf, planText, Placed}
@@ -41,7 +43,7 @@ SmallPlan (Plan n order) = n ≤ 9673
 SmallPlan (RefusedPlan number line) = line ≤ 194
 
 module _ (s : Site) (checks : checked s ≡ Accepted) (n : ℕ) where
-  outcome-small : (o : Outcome) → plan (siteOf s) ≡ o → SmallPlan (outcomeAnswer s o n)
+  pub outcome-small : (o : Outcome) → plan (siteOf s) ≡ o → SmallPlan (outcomeAnswer s o n)
   outcome-small noFit e = omega arith
   outcome-small noPlacing e = omega arith
   outcome-small (planned order sequence) e =
@@ -49,10 +51,6 @@ module _ (s : Site) (checks : checked s ≡ Accepted) (n : ℕ) where
       let count = clusters-counted s checks in
       let placed : Placed s sequence = record { accepted = checks; fresh = rw count at (fresh .0); short = omega (arith, counts-bounded s checks) } in
       elim (decide (leb (length (planText s order sequence)) n)) [ inl f ↦ rw f (text-bounded s order sequence placed) | inr f ↦ rw f (omega arith) ]
-
-  pub answer-small : SmallPlan (answer s n)
-  unfolding answer
-  answer-small = rw checks (outcome-small (plan (siteOf s)) refl)
 
 module _ (t : List ℕ) (reading : Reading) (read : reading ≡ readText t) where
   verdict-is : (v : Verdict) → reading .verdict ≡ v → readText t .verdict ≡ v
@@ -80,23 +78,25 @@ module _ (t : List ℕ) (reading : Reading) (read : reading ≡ readText t) wher
     pub records-checked : checked s ≡ Accepted
     records-checked = write-of-read t s text-taken .0
 
-    pub plan-taken : (room : List ℕ) → (plannedNumber (answer s (length room)) ≡ planNumber t (length room)) × (roomAfter s room ≡ planRoom t room)
-    unfolding planNumber planRoom
-    plan-taken room = (rw text-taken, rw text-taken)
+    pub plan-taken : (room : List ℕ)
+        → (plannedNumber (outcomeAnswer s (plan (siteOf s)) (length room)) ≡ planNumber t (length room)) × (outcomeRoom s (plan (siteOf s)) room ≡ planRoom t room)
+    unfolding planNumber planRoom answer roomAfter
+    plan-taken room = (rw (text-taken, records-checked), rw (text-taken, records-checked))
 
-    pub plan-small : (n : ℕ) → SmallPlan (answer s n)
-    plan-small n = answer-small s records-checked n
+    pub plan-small : (n : ℕ) → SmallPlan (outcomeAnswer s (plan (siteOf s)) n)
+    plan-small n = outcome-small s records-checked n (plan (siteOf s)) refl
 
-    pub rewrite-taken : (room : List ℕ)
-        → (writtenNumber (written (checked s) (textOf s) (length room)) ≡ rewriteNumber t (length room)) × (writtenRoom (checked s) (textOf s) room ≡ rewriteRoom t room)
-    unfolding rewriteNumber rewriteRoom
-    rewrite-taken room = (rw text-taken, rw text-taken)
+    pub counts-taken : (s .«cluster_count» ≤ 64) × (s .«flow_count» ≤ 128)
+    counts-taken = let h = accepted-counts s records-checked in (h .1, h .2)
 
-    pub written-small : (n : ℕ) → SmallWriting (written (checked s) (textOf s) n)
-    unfolding written
+    pub rewrite-taken : (room : List ℕ) → (writtenNumber (fitting (textOf s) (length room)) ≡ rewriteNumber t (length room)) × (handed (textOf s) room ≡ rewriteRoom t room)
+    unfolding rewriteNumber rewriteRoom written writtenRoom
+    rewrite-taken room = (rw (text-taken, records-checked), rw (text-taken, records-checked))
+
+    pub written-small : (n : ℕ) → SmallWriting (fitting (textOf s) n)
     written-small n =
         let fits : length (textOf s) ≤ 11721 = rw (write-of-read t s text-taken .1) (longest-site t s text-taken) in
-        rw records-checked (elim (decide (leb (length (textOf s)) n)) [ inl e ↦ rw e fits | inr e ↦ rw e (omega arith) ])
+        elim (decide (leb (length (textOf s)) n)) [ inl e ↦ rw e fits | inr e ↦ rw e (omega arith) ]
 
 -- what is the same on both sides of a test
 pub either-way : {A : Type 0} (b : Bool) (x p q : A) → x ≡ p → x ≡ q → x ≡ cond b p q

@@ -18,8 +18,8 @@ fn refusal(number: u8, line: usize) -> u32
     65536 * (number as u32) + line as u32
 }
 
-// Reads the site, and plans it or writes it back. Both C functions go through here, so that one frame
-// serves the reader and what comes after it: the stack is that of the larger.
+// Reads the site, and plans it or writes it back: what was read needs no second check. Both C
+// functions go through here, so that one frame serves the reader and what comes after it.
 fn read_and(text: &[u8], room: &mut [u8], planning: bool) -> u32
     ensures { λ r. ⌜ (r ≡ cond planning (planNumber (now (text .entry)) (length (now (room .entry)))) (rewriteNumber (now (text .entry)) (length (now (room .entry))))) × (now (room .exit) ≡ cond planning (planRoom (now (text .entry)) (now (room .entry))) (rewriteRoom (now (text .entry)) (now (room .entry)))) ⌝ }
 {
@@ -29,13 +29,13 @@ fn read_and(text: &[u8], room: &mut [u8], planning: bool) -> u32
         Verdict::Refused { number, line } => refusal(number, line),
         Verdict::Accepted => {
             if planning {
-                let answer = planner::plan(reading.site, room);
+                let answer = planner::plan_accepted(reading.site, room);
                 match answer {
                     Planned::Plan { length, order: _ } => length as u32,
                     Planned::Refused { number, line } => refusal(number, line),
                 }
             } else {
-                let written = writer::write(reading.site, room);
+                let written = writer::put_site(room, reading.site);
                 match written {
                     Written::Length(length) => length as u32,
                     Written::Refused { number, line } => refusal(number, line),

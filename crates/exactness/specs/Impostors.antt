@@ -31,7 +31,7 @@ use Rattle.planner.specs.declared.Planned.{Planned}
 use Rattle.planner.specs.declared.Planned.the-variants.{Plan, Refused}
 use Rattle.planner.specs.Answers.{answer, roomAfter}
 use Rattle.exactness.specs.PlanRead.{startsIn}
-use Rattle.exactness.specs.SoundRecords.{records-sound}
+use Rattle.planner.specs.SiteLaws.{describes-sound}
 
 -- ---- the contract
 
@@ -236,7 +236,7 @@ module _ (f : Planner) (meets : Contract f) where
   pub smaller-orders-tried : ((s : Site) (room : List ℕ) (order : ℕ) → Permitted (siteOf s) order → Fits (siteOf s) order → Placeless (siteOf s) order → f s room .0 ≡ Refused 8 0) → ⊥
   smaller-orders-tried impostor =
       let room : List ℕ = replicate 84 0 in
-      let largest = plan-is-exact (siteOf P6) (records-sound P6 (worked .P6-accepted)) .planned-is 2 (0 ∷ 2 ∷ 1 ∷ []) (worked .P6-plan) .largest-order in
+      let largest = plan-is-exact (siteOf P6) (describes-sound P6 (worked .P6-accepted)) .planned-is 2 (0 ∷ 2 ∷ 1 ∷ []) (worked .P6-plan) .largest-order in
       let e = impostor P6 room 10 (worked .P6-permitted) (worked .P6-fits) (largest 10 (omega arith) (worked .P6-permitted)) in
       let h = answers P6 room (Plan 84 2) (worked .P6-planned) in
       let z : _≡_ {A = ℕ} 0 1 = cc in omega arith

@@ -1,7 +1,6 @@
 -- a plan text as a stranger reads it
 pub mod PlanRead
 -- laws that the theorems use
-pub mod SoundRecords
 pub mod SameStarts
 pub mod EachOnce
 pub mod PlanReadLaws

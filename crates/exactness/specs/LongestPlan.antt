@@ -20,7 +20,7 @@ use Rattle.site.specs.Check.{checked}
 use Rattle.site.specs.Checked.{checked-sound, counts-in, site-cluster-in}
 use Rattle.plantext.specs.PlanText.{siteOf, planLine, planLines, planText}
 use Rattle.plantext.specs.PlanTextLaws.{cluster-length, text-length}
-use Rattle.exactness.specs.SoundRecords.{size-is-count}
+use Rattle.planner.specs.SiteLaws.{clusters-counted}
 
 lines-length : (bytes : ℕ → List ℕ) (xs : List ℕ) → length (linesOf bytes xs) ≡ sumOver (λ x. length (lineOf (bytes x))) xs
 unfolding linesOf sumOver
@@ -50,7 +50,7 @@ module _ (s : Site) (accepted : checked s ≡ Accepted) (order : ℕ) (sequence 
         text-length s order sequence,
         lines-length (planLine s sequence) sequence,
         plan .each-once size,
-        ap (λ m. sumBelow m size) (size-is-count s accepted),
+        ap (λ m. sumBelow m size) (clusters-counted s accepted),
         sum-at-most n 151 size line-at-most,
         counts-in s (checked-sound s accepted) .clusters,
       )

@@ -30,11 +30,11 @@ use Rattle.site.specs.Checked.{ClusterIn, checked-sound, counts-in, site-cluste
 use Rattle.plantext.specs.PlanText.{siteOf, planHeader, clusterLine, planLine, planLines, planText}
 use Rattle.exactness.specs.EachOnce.{each-is-cluster, has-each-cluster, has-each-once}
 use Rattle.exactness.specs.PlanRead.{isLineOf, startAmong, orderIn, linesFor, startsIn}
-use Rattle.exactness.specs.SoundRecords.{size-is-count}
+use Rattle.planner.specs.SiteLaws.{clusters-counted}
 
 -- ---- a permitted order is one of 0 to 14, and its interval is below 2^24
 
-pub permitted-is-order : (s : model.Site) (order : ℕ) → Permitted s order → order ≤ largest
+permitted-is-order : (s : model.Site) (order : ℕ) → Permitted s order → order ≤ largest
 unfolding permitted isOrder
 permitted-is-order s order p = leb-true order largest (and-both (isOrder order) (withinAll (interval order) (periods s)) p .0)
 
@@ -58,7 +58,7 @@ module _ (s : Site) (accepted : checked s ≡ Accepted) (order : ℕ) (sequence 
   start-small : (c : ℕ) → c < n → start c < 16777216
   start-small c l = omega (
     arith,
-    plan .placing .inside c (omega (arith, size-is-count s accepted)),
+    plan .placing .inside c (omega (arith, clusters-counted s accepted)),
     symbols-bounded (permitted-is-order (siteOf s) order (plan .order-permitted)),
   )
 
@@ -107,7 +107,7 @@ module _ (s : Site) (accepted : checked s ≡ Accepted) (order : ℕ) (sequence 
       ((cc), (cc))
 
   once : (f : ℕ → ℕ) → sumOver f sequence ≡ sumBelow n f
-  once f = plan .each-once f ∙ ap (λ m. sumBelow m f) (size-is-count s accepted)
+  once f = plan .each-once f ∙ ap (λ m. sumBelow m f) (clusters-counted s accepted)
 
   header-row : rows (planText s order sequence) ≡ record { chars = hexes (planHeader order n); ended = true } ∷ rows (linesOf (planLine s sequence) sequence)
   unfolding planText planLines

@@ -30,7 +30,7 @@ use Rattle.exactness.specs.PlanRead.{orderIn, linesFor, startsIn}
 use Rattle.exactness.specs.PlanReadLaws.{order-in-plan-text, starts-in-plan-text, one-line-each, no-other-line}
 use Rattle.exactness.specs.LongestPlan.{longest-plan}
 use Rattle.exactness.specs.SameStarts.{same-starts-place}
-use Rattle.exactness.specs.SoundRecords.{size-is-count, records-sound}
+use Rattle.planner.specs.SiteLaws.{clusters-counted, describes-sound}
 
 -- ---- the statement
 
@@ -95,19 +95,19 @@ module _ (s : Site) where
 
 module _ (s : Site) (accepted : checked s ≡ Accepted) where
   exact : Exact (siteOf s)
-  exact = plan-is-exact (siteOf s) (records-sound s accepted)
+  exact = plan-is-exact (siteOf s) (describes-sound s accepted)
 
   plan-text-places : (order : ℕ) (sequence : List ℕ) → plan (siteOf s) ≡ planned order sequence → Places (siteOf s) order (planText s order sequence)
   plan-text-places order sequence e =
       let p = exact .planned-is order sequence e in
       let text : List ℕ = planText s order sequence in
-      let in-count : (c : ℕ) → c < model.size (siteOf s) → c < s .«cluster_count» = λ c l. omega (arith, size-is-count s accepted) in
+      let in-count : (c : ℕ) → c < model.size (siteOf s) → c < s .«cluster_count» = λ c l. omega (arith, clusters-counted s accepted) in
       record {
         order-shown = order-in-plan-text s accepted order sequence p;
         one-line-each = λ c l. one-line-each s accepted order sequence p c (in-count c l);
-        no-other-line = no-other-line s accepted order sequence p ∙ ap suc (sym (size-is-count s accepted));
+        no-other-line = no-other-line s accepted order sequence p ∙ ap suc (sym (clusters-counted s accepted));
         order-permitted = p .order-permitted;
-        placing = same-starts-place (siteOf s) order (records-sound s accepted) (starts (siteOf s) sequence) (startsIn text)
+        placing = same-starts-place (siteOf s) order (describes-sound s accepted) (starts (siteOf s) sequence) (startsIn text)
             (λ c l. sym (starts-in-plan-text s accepted order sequence p c (in-count c l))) (p .placing);
         largest-order = p .largest-order;
       }

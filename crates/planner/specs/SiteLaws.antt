@@ -17,7 +17,7 @@ use Rattle.model.specs.Relaxing.{depths}
 use Rattle.model.specs.Sites as model
 use Rattle.model.specs.Trees.{depth}
 use Rattle.plantext.specs.PlanText.{flowOf, siteOf}
-use Rattle.plantext.specs.PlanTextLaws.{order-at}
+use Rattle.plantext.specs.PlanTextLaws.{field-at, order-at}
 use Rattle.search.specs.Posed.{Posed}
 use Rattle.site.specs.declared.Cluster.{Cluster}
 use Rattle.site.specs.declared.Flow.{Flow}
@@ -85,7 +85,7 @@ module _ (s : Site) (accepted : checked s ≡ Accepted) where
 
   parent-at : (c : ℕ) → c < n → model.parent m c ≡ getD (s .clusters) c absent .parent
   unfolding siteOf
-  parent-at c l = List·getD-map (λ (k : Cluster). k .parent) (take n (s .clusters)) c absent ∙ ap (λ (k : Cluster). k .parent) (getD-take n (s .clusters) c absent l)
+  parent-at = field-at s (λ k. k .parent)
 
   flow-at : (i : ℕ) → i < f → getD (m .flows) i (flowOf noFlow) ≡ flowOf (getD (s .flows) i noFlow)
   unfolding siteOf

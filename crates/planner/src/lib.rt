@@ -84,14 +84,14 @@ fn place_clusters(site: Site, placed: &mut [u8]) -> Schedule
 }
 
 // Plans accepted records: 7 or 8 where there is no plan, 9 where the room is shorter than its text.
-fn plan_accepted(site: Site, room: &mut [u8]) -> Planned
+pub fn plan_accepted(site: Site, room: &mut [u8]) -> Planned
     requires { ⌜ checked site ≡ Accepted ⌝ }
     ensures { λ r. ⌜ (r ≡ outcomeAnswer site (planOf (siteOf site)) (length (now (room .entry)))) × (now (room .exit) ≡ outcomeRoom site (planOf (siteOf site)) (now (room .entry))) ⌝ }
 {
     let n = wide(site.cluster_count);
     let mut placed = [0; 64];
-    let made = place_clusters(site, &mut placed[..n]);
-    match made {
+    let schedule = place_clusters(site, &mut placed[..n]);
+    match schedule {
         Schedule::NoFit => Planned::Refused { number: 7, line: 0 },
         Schedule::NoPlacing => Planned::Refused { number: 8, line: 0 },
         Schedule::Placed { order, count } => {

@@ -1,7 +1,7 @@
 -- Laws of the plan text: how long its lines are, and that a cluster starts at the sum of the portions before it.
 use mathlib.Core.Path.{_≡_, refl, ap, _∙_}
 use mathlib.Core.Bool.{false}
-use mathlib.Core.List.{List, [], _∷_, _++_}
+use mathlib.Core.List.{List, [], _∷_, _++_, map}
 use Prim.Native.Nat.{ℕ, zero, suc, _+_, _*_, _≤_, _<_}
 use native.Mathlib.Nat.{suc-mul, mul-le-mul-right}
 use native.Mathlib.Numerals.{add-one}
@@ -49,12 +49,13 @@ sum-of-one-more f [] x = omega arith
 sum-of-one-more f (y ∷ ys) x = omega (arith, sum-of-one-more f ys x)
 
 module _ (s : Site) where
-  -- the model's cluster c has the order of the record
+  -- a field of the clusters that count, at cluster c
+  pub field-at : (field : Cluster → ℕ) (c : ℕ) → c < s .«cluster_count» → getD (map field (take (s .«cluster_count») (s .clusters))) c (field absent) ≡ field (getD (s .clusters) c absent)
+  field-at field c l = List·getD-map field (take (s .«cluster_count») (s .clusters)) c absent ∙ ap field (getD-take (s .«cluster_count») (s .clusters) c absent l)
+
   pub order-at : (c : ℕ) → c < s .«cluster_count» → at (siteOf s .orders) c ≡ getD (s .clusters) c absent .order
   unfolding siteOf
-  order-at c l =
-      List·getD-map (λ (k : Cluster). k .order) (take (s .«cluster_count») (s .clusters)) c absent
-      ∙ ap (λ (k : Cluster). k .order) (getD-take (s .«cluster_count») (s .clusters) c absent l)
+  order-at = field-at (λ k. k .order)
 
   -- the lines of all clusters of the sequence
   pub lines-all : (xs : List ℕ) → linesOf (planLine s xs) (take (length xs) xs) ≡ planLines s xs

@@ -4,7 +4,7 @@ use mathlib.Core.Path.{_≡_, sym, ap, _∙_, subst}
 use Prim.Native.Nat.{_≤_}
 use native.Mathlib.Omega.{arith}
 use Rattle.commission.specs.Numbers.{plannedNumber, writtenNumber}
-use Rattle.commission.specs.NumberLaws.{SmallPlan, SmallWriting, refused-line-small, plan-refused, plan-taken, plan-small, rewrite-refused, rewrite-taken, written-small, either-way}
+use Rattle.commission.specs.NumberLaws.{SmallPlan, SmallWriting, refused-line-small, plan-refused, records-checked, counts-taken, plan-taken, plan-small, rewrite-refused, rewrite-taken, written-small, either-way}
 use borrow.Author.Needs.{needs}
 use Rattle.commission.proofs.read_and.Statement.{statement}
 use Rattle.commission.proofs.read_and.Tie as tie
@@ -21,8 +21,8 @@ refusal-requires c κs = refused-line-small (c .before .before .before .before .
 enum-told : tie.Need-enum-told
 enum-told c = search needs
 
-plan-requires : tie.Need-plan-requires
-plan-requires c κs = search needs
+plan-accepted-requires : tie.Need-plan-accepted-requires
+plan-accepted-requires c κs = records-checked (c .before .before .before .before .before .before .before .args .text .now) (c .before .before .before .before .read .result) (c .before .before .before .before .read .ensures) (c .before .before .enum-told .given .1)
 
 enum-known-answer : tie.Need-enum-known-answer
 enum-known-answer c = search needs
@@ -30,7 +30,7 @@ enum-known-answer c = search needs
 cast-result : tie.Need-cast-result
 cast-result c =
     let read = c .before .before .before .before .before .before .before .before .before .before .read in
-    let small = subst SmallPlan (sym (c .before .before .before .before .before .plan .ensures .0) ∙ c .before .answer .given .1) (plan-small (c .before .before .before .before .before .before .before .before .before .before .before .before .before .args .text .now) (read .result) (read .ensures) (c .before .before .before .before .before .before .before .before .enum-told .given .1) _) in
+    let small = subst SmallPlan (sym (c .before .before .before .before .before .plan-accepted .ensures .0) ∙ c .before .answer .given .1) (plan-small (c .before .before .before .before .before .before .before .before .before .before .before .before .before .args .text .now) (read .result) (read .ensures) (c .before .before .before .before .before .before .before .before .enum-told .given .1) _) in
     omega arith
 
 enum-known-answer-2 : tie.Need-enum-known-answer-2
@@ -39,10 +39,10 @@ enum-known-answer-2 c = search needs
 refusal-requires-2 : tie.Need-refusal-requires-2
 refusal-requires-2 c κs =
     let read = c .before .before .before .before .before .before .before .before .before .before .read in
-    subst SmallPlan (sym (c .before .before .before .before .before .plan .ensures .0) ∙ c .before .answer2 .given .1) (plan-small (c .before .before .before .before .before .before .before .before .before .before .before .before .before .args .text .now) (read .result) (read .ensures) (c .before .before .before .before .before .before .before .before .enum-told .given .1) _)
+    subst SmallPlan (sym (c .before .before .before .before .before .plan-accepted .ensures .0) ∙ c .before .answer2 .given .1) (plan-small (c .before .before .before .before .before .before .before .before .before .before .before .before .before .args .text .now) (read .result) (read .ensures) (c .before .before .before .before .before .before .before .before .enum-told .given .1) _)
 
-write-requires : tie.Need-write-requires
-write-requires c κs = search needs
+put-site-requires : tie.Need-put-site-requires
+put-site-requires c κs = counts-taken (c .before .before .before .before .before .before .before .args .text .now) (c .before .before .before .before .read .result) (c .before .before .before .before .read .ensures) (c .before .before .enum-told .given .1)
 
 enum-known-written : tie.Need-enum-known-written
 enum-known-written c = search needs
@@ -50,7 +50,7 @@ enum-known-written c = search needs
 cast-result-2 : tie.Need-cast-result-2
 cast-result-2 c =
     let read = c .before .before .before .before .before .before .before .before .before .before .read in
-    let small = subst SmallWriting (sym (c .before .before .before .before .before .write .ensures .0) ∙ c .before .written .given .1) (written-small (c .before .before .before .before .before .before .before .before .before .before .before .before .before .args .text .now) (read .result) (read .ensures) (c .before .before .before .before .before .before .before .before .enum-told .given .1) _) in
+    let small = subst SmallWriting (sym (c .before .before .before .before .before .put-site .ensures .0) ∙ c .before .written .given .1) (written-small (c .before .before .before .before .before .before .before .before .before .before .before .before .before .args .text .now) (read .result) (read .ensures) (c .before .before .before .before .before .before .before .before .enum-told .given .1) _) in
     omega arith
 
 enum-known-written-2 : tie.Need-enum-known-written-2
@@ -59,7 +59,7 @@ enum-known-written-2 c = search needs
 refusal-requires-3 : tie.Need-refusal-requires-3
 refusal-requires-3 c κs =
     let read = c .before .before .before .before .before .before .before .before .before .before .read in
-    subst SmallWriting (sym (c .before .before .before .before .before .write .ensures .0) ∙ c .before .written2 .given .1) (written-small (c .before .before .before .before .before .before .before .before .before .before .before .before .before .args .text .now) (read .result) (read .ensures) (c .before .before .before .before .before .before .before .before .enum-told .given .1) _)
+    subst SmallWriting (sym (c .before .before .before .before .before .put-site .ensures .0) ∙ c .before .written2 .given .1) (written-small (c .before .before .before .before .before .before .before .before .before .before .before .before .before .args .text .now) (read .result) (read .ensures) (c .before .before .before .before .before .before .before .before .enum-told .given .1) _)
 
 returns : tie.Need-returns
 returns c =
@@ -69,44 +69,44 @@ returns c =
     (c .refusal .ensures ∙ either-way (c .before .before .before .before .before .before .before .args .planning) _ _ _ (planned .0) (written .0), either-way (c .before .before .before .before .before .before .before .args .planning) _ _ _ (planned .1) (written .1))
 
 same-length : tie.Need-same-length
-same-length c = c .before .before .before .before .before .plan .kept .1 .0
+same-length c = c .before .before .before .before .before .plan-accepted .kept .1 .0
 
 returns-2 : tie.Need-returns-2
 unfolding plannedNumber
 returns-2 c =
     let read = c .before .before .before .before .before .before .before .before .before .before .read in
     let is = plan-taken (c .before .before .before .before .before .before .before .before .before .before .before .before .before .args .text .now) (read .result) (read .ensures) (c .before .before .before .before .before .before .before .before .enum-told .given .1) _ in
-    rw (c .before .before .before .before .before .before .before .if1 .taken) (ap plannedNumber (sym (c .before .answer .given .1) ∙ c .before .before .before .before .before .plan .ensures .0) ∙ is .0, c .before .before .before .before .before .plan .ensures .1 ∙ is .1)
+    rw (c .before .before .before .before .before .before .before .if1 .taken) (ap plannedNumber (sym (c .before .answer .given .1) ∙ c .before .before .before .before .before .plan-accepted .ensures .0) ∙ is .0, c .before .before .before .before .before .plan-accepted .ensures .1 ∙ is .1)
 
 same-length-2 : tie.Need-same-length-2
-same-length-2 c = c .before .before .before .before .before .before .plan .kept .1 .0
+same-length-2 c = c .before .before .before .before .before .before .plan-accepted .kept .1 .0
 
 returns-3 : tie.Need-returns-3
 unfolding plannedNumber
 returns-3 c =
     let read = c .before .before .before .before .before .before .before .before .before .before .before .read in
     let is = plan-taken (c .before .before .before .before .before .before .before .before .before .before .before .before .before .before .args .text .now) (read .result) (read .ensures) (c .before .before .before .before .before .before .before .before .before .enum-told .given .1) _ in
-    rw (c .before .before .before .before .before .before .before .before .if1 .taken) (c .refusal2 .ensures ∙ ap plannedNumber (sym (c .before .before .answer2 .given .1) ∙ c .before .before .before .before .before .before .plan .ensures .0) ∙ is .0, c .before .before .before .before .before .before .plan .ensures .1 ∙ is .1)
+    rw (c .before .before .before .before .before .before .before .before .if1 .taken) (c .refusal2 .ensures ∙ ap plannedNumber (sym (c .before .before .answer2 .given .1) ∙ c .before .before .before .before .before .before .plan-accepted .ensures .0) ∙ is .0, c .before .before .before .before .before .before .plan-accepted .ensures .1 ∙ is .1)
 
 same-length-3 : tie.Need-same-length-3
-same-length-3 c = c .before .before .before .before .before .write .kept .1 .0
+same-length-3 c = c .before .before .before .before .before .put-site .kept .0
 
 returns-4 : tie.Need-returns-4
 unfolding writtenNumber
 returns-4 c =
     let read = c .before .before .before .before .before .before .before .before .before .before .read in
     let is = rewrite-taken (c .before .before .before .before .before .before .before .before .before .before .before .before .before .args .text .now) (read .result) (read .ensures) (c .before .before .before .before .before .before .before .before .enum-told .given .1) _ in
-    rw (c .before .before .before .before .before .before .before .if1 .left) (ap writtenNumber (sym (c .before .written .given .1) ∙ c .before .before .before .before .before .write .ensures .0) ∙ is .0, c .before .before .before .before .before .write .ensures .1 ∙ is .1)
+    rw (c .before .before .before .before .before .before .before .if1 .left) (ap writtenNumber (sym (c .before .written .given .1) ∙ c .before .before .before .before .before .put-site .ensures .0) ∙ is .0, c .before .before .before .before .before .put-site .ensures .1 ∙ is .1)
 
 same-length-4 : tie.Need-same-length-4
-same-length-4 c = c .before .before .before .before .before .before .write .kept .1 .0
+same-length-4 c = c .before .before .before .before .before .before .put-site .kept .0
 
 returns-5 : tie.Need-returns-5
 unfolding writtenNumber
 returns-5 c =
     let read = c .before .before .before .before .before .before .before .before .before .before .before .read in
     let is = rewrite-taken (c .before .before .before .before .before .before .before .before .before .before .before .before .before .before .args .text .now) (read .result) (read .ensures) (c .before .before .before .before .before .before .before .before .before .enum-told .given .1) _ in
-    rw (c .before .before .before .before .before .before .before .before .if1 .left) (c .refusal3 .ensures ∙ ap writtenNumber (sym (c .before .before .written2 .given .1) ∙ c .before .before .before .before .before .before .write .ensures .0) ∙ is .0, c .before .before .before .before .before .before .write .ensures .1 ∙ is .1)
+    rw (c .before .before .before .before .before .before .before .before .if1 .left) (c .refusal3 .ensures ∙ ap writtenNumber (sym (c .before .before .written2 .given .1) ∙ c .before .before .before .before .before .before .put-site .ensures .0) ∙ is .0, c .before .before .before .before .before .before .put-site .ensures .1 ∙ is .1)
 
 pub read-and-spec : {M : Type 1} → statement M
 read-and-spec =
@@ -116,12 +116,12 @@ read-and-spec =
     enum-known-verdict
     refusal-requires
     enum-told
-    plan-requires
+    plan-accepted-requires
     enum-known-answer
     cast-result
     enum-known-answer-2
     refusal-requires-2
-    write-requires
+    put-site-requires
     enum-known-written
     cast-result-2
     enum-known-written-2

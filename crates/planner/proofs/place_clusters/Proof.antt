@@ -9,7 +9,6 @@ use lib.Seq.{length-take-le, length-front, take-at}
 use Rattle.hexline.specs.Loops.{filled-length}
 use Rattle.model.specs.Counting.{at, values}
 use Rattle.model.specs.Plans.{plan, planned}
-use Rattle.model.specs.Sites as model
 use Rattle.model.specs.Trees.{depth}
 use Rattle.plantext.specs.PlanText.{siteOf}
 use Rattle.search.specs.declared.Found.{Found}

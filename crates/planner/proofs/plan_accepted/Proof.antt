@@ -30,7 +30,7 @@ scheduled-as : (c : tie.After-place-clusters) {r : Schedule} → c .place-cluste
 scheduled-as c e = c .place-clusters .ensures .0 ∙ ap (λ (r : Schedule). scheduledAs r (c .place-clusters .last .1 .0)) e
 
 -- where the clusters are placed: the sequence is the slice's, and the plan's
-module _ (c : tie.After-made) where
+module _ (c : tie.After-schedule) where
   abbrev start : tie.Start
   start = c .before .before .before .before .before .before .before
 
@@ -38,10 +38,10 @@ module _ (c : tie.After-made) where
   site = start .args .site
 
   abbrev order : ℕ
-  order = c .made .given .0 .0
+  order = c .schedule .given .0 .0
 
   abbrev count : ℕ
-  count = c .made .given .0 .1 .0
+  count = c .schedule .given .0 .1 .0
 
   abbrev filled : List ℕ
   filled = c .before .before .before .place-clusters .last .1 .0
@@ -57,14 +57,14 @@ module _ (c : tie.After-made) where
 
   count-fits : count ≤ length filled
   unfolding scheduledCount
-  count-fits = let bound = c .before .before .before .place-clusters .ensures .1 in omega (arith, bound, ap scheduledCount (c .made .given .1))
+  count-fits = let bound = c .before .before .before .place-clusters .ensures .1 in omega (arith, bound, ap scheduledCount (c .schedule .given .1))
 
   sequence-fits : count ≤ length (filled ++ drop n zeros)
   sequence-fits = omega (arith, count-fits, length-append filled (drop n zeros))
 
   planned-here : plan (siteOf site) ≡ planned order sequence
   unfolding scheduledAs
-  planned-here = scheduled-as (c .before .before .before) (c .made .given .1) ∙ ap (planned order) (sym (take-append-le count filled (drop n zeros) count-fits))
+  planned-here = scheduled-as (c .before .before .before) (c .schedule .given .1) ∙ ap (planned order) (sym (take-append-le count filled (drop n zeros) count-fits))
 
   placed-here : Placed site sequence
   placed-here =
@@ -92,8 +92,8 @@ enum-told c = search needs
 enum-told-2 : tie.Need-enum-told-2
 enum-told-2 c = search needs
 
-enum-known-made : tie.Need-enum-known-made
-enum-known-made c = search needs
+enum-known-schedule : tie.Need-enum-known-schedule
+enum-known-schedule c = search needs
 
 array-share-prefix-placed : tie.Need-array-share-prefix-placed
 array-share-prefix-placed c = sequence-fits (c .before)
@@ -106,15 +106,15 @@ length-requires c κs = placed-here (c .before .before)
 
 returns : tie.Need-returns
 returns c =
-    let made = c .before .before .before .before in
-    let room = start made .args .room .now in
-    let short : length room < length (text made) = omega (arith, c .before .length .ensures (order made)) in
-    (rw (planned-here made, lt-leb _ _ short), rw (planned-here made) (sym (short-handed room (text made) short)))
+    let schedule = c .before .before .before .before in
+    let room = start schedule .args .room .now in
+    let short : length room < length (text schedule) = omega (arith, c .before .length .ensures (order schedule)) in
+    (rw (planned-here schedule, lt-leb _ _ short), rw (planned-here schedule) (sym (short-handed room (text schedule) short)))
 
 put-requires : tie.Need-put-requires
 put-requires c κs =
-    let made = c .before .before .before .before .before in
-    (placed-here made, omega (arith, c .before .before .length .ensures (order made)))
+    let schedule = c .before .before .before .before .before in
+    (placed-here schedule, omega (arith, c .before .before .length .ensures (order schedule)))
 
 returns-2 : tie.Need-returns-2
 unfolding scheduledAs
@@ -133,11 +133,11 @@ same-length c = search needs
 
 returns-4 : tie.Need-returns-4
 returns-4 c =
-    let made = c .before .before .before .before .before .before .before .before in
-    let room = start made .args .room .now in
+    let schedule = c .before .before .before .before .before .before .before .before in
+    let room = start schedule .args .room .now in
     let put = c .before .before .put .ensures in
-    let fits : length (text made) ≤ length room = omega (arith, c .before .before .before .before .before .length .ensures (order made)) in
-    (rw (planned-here made, le-leb _ _ fits) (ap (λ (l : ℕ). Plan l (order made)) (put .0)), rw (planned-here made) (put .1 ∙ put-handed room (text made) fits))
+    let fits : length (text schedule) ≤ length room = omega (arith, c .before .before .before .before .before .length .ensures (order schedule)) in
+    (rw (planned-here schedule, le-leb _ _ fits) (ap (λ (l : ℕ). Plan l (order schedule)) (put .0)), rw (planned-here schedule) (put .1 ∙ put-handed room (text schedule) fits))
 
 pub plan-accepted-spec : {M : Type 1} → statement M
 plan-accepted-spec =
@@ -149,7 +149,7 @@ plan-accepted-spec =
     place-clusters-requires
     enum-told
     enum-told-2
-    enum-known-made
+    enum-known-schedule
     array-share-prefix-placed
     slice-aggregate-sequence
     length-requires
