@@ -2,11 +2,13 @@
 -- "the result is d", or "the result is d and the room is e", with d and e made of the arguments alone, so each line here is an instance of one of two laws.
 -- A part of a text that is shown is a place in memory and its bytes; these are equal, and nothing else of it can be looked at.
 use mathlib.Core.Path.{_≡_}
-use mathlib.Core.List.{List}
-use Prim.Native.Nat.{ℕ, _+_}
-use lib.ListN.{length}
+use mathlib.Core.List.{List, _++_}
+use Prim.Native.Nat.{ℕ, _+_, _*_}
+use lib.ListN.{length, drop}
 use denote.Ref.{RefT, ptr, now}
-use Rattle.hexline.specs.Lines.{Row}
+use Rattle.hexline.specs.Digits.{isDigit, digit, hexOf, allDigits, byteAt, numberAt, hexes, numberBytes, fieldBytes, lineOf}
+use Rattle.hexline.specs.Lines.{Row, lineLength, malformed}
+use Rattle.hexline.specs.Room.{put}
 use Rattle.model.specs.declared.Order.{Order}
 use Rattle.model.specs.Orders.{portion, interval, lengthAt, permitted}
 use Rattle.site.specs.declared.Site.{Site}
@@ -16,8 +18,7 @@ use Rattle.site.specs.Table.{entryOf}
 use Rattle.site.specs.Reading.{readText}
 use Rattle.site.specs.Check.{checked}
 use Rattle.site.specs.Shown.{lineStart, lineAt, Shown}
-use Rattle.writer.specs.Text.{textOf, written}
-use Rattle.writer.specs.Text.{roomAfter as writtenRoom}
+use Rattle.writer.specs.Text.{textOf, written, roomAfter as writtenRoom}
 use Rattle.planner.specs.Answers.{answer, roomAfter}
 use Rattle.commission.specs.Numbers.{planNumber, planRoom, rewriteNumber, rewriteRoom}
 use Rattle.roundtrip.specs.EqualResults.{equal-results, equal-results-in-room}
@@ -31,6 +32,20 @@ abbrev pub OneResultInRoom : {A B : Type 0} → A → B → Type 0
 OneResultInRoom {A} {B} d e = (r₁ r₂ : A) (room₁ room₂ : B) → (r₁ ≡ d) × (room₁ ≡ e) → (r₂ ≡ d) × (room₂ ≡ e) → (r₁ ≡ r₂) × (room₁ ≡ room₂)
 
 pub record EqualResults : Type 0 where
+  -- the line layer
+  pub «is_digit» : (b : ℕ) → OneResult (isDigit b)
+  pub «digit_of» : (b : ℕ) → OneResult (digit b)
+  pub «hex_of» : (v : ℕ) → OneResult (hexOf v)
+  pub «all_digits» : (line : List ℕ) → OneResult (allDigits line)
+  pub «is_malformed» : (most : ℕ) (r : Row) → OneResult (malformed most r)
+  pub «byte_at» : (line : List ℕ) (k : ℕ) → OneResult (byteAt line k)
+  pub «number_at» : (line : List ℕ) (k width : ℕ) → OneResult (numberAt line k width)
+  pub «line_end» : (text : List ℕ) (at : ℕ) → OneResult (at + lineLength (drop at text))
+  pub «put_bytes» : (room : List ℕ) (at : ℕ) (bytes : List ℕ) → OneResultInRoom (at + 2 * length bytes) (put room at (hexes bytes))
+  pub «put_number» : (room : List ℕ) (at value width : ℕ) → OneResultInRoom (at + 2 * width) (put room at (hexes (numberBytes width value)))
+  pub «put_fields» : (room : List ℕ) (at : ℕ) (widths values : List ℕ) → OneResultInRoom (at + 2 * length (fieldBytes widths values)) (put room at (hexes (fieldBytes widths values)))
+  pub «put_line» : (room : List ℕ) (at : ℕ) (widths values tail : List ℕ)
+      → OneResultInRoom (at + length (lineOf (fieldBytes widths values ++ tail))) (put room at (lineOf (fieldBytes widths values ++ tail)))
   -- the orders
   pub order-new : (number : ℕ) (r₁ r₂ : Order) → r₁ .number ≡ number → r₂ .number ≡ number → r₁ ≡ r₂
   pub order-portion : (number : ℕ) → OneResult (lengthAt portion number)
@@ -54,6 +69,18 @@ pub record EqualResults : Type 0 where
 
 pub results-are-equal : EqualResults
 results-are-equal = record {
+  «is_digit» = λ b. equal-results (isDigit b);
+  «digit_of» = λ b. equal-results (digit b);
+  «hex_of» = λ v. equal-results (hexOf v);
+  «all_digits» = λ line. equal-results (allDigits line);
+  «is_malformed» = λ most r. equal-results (malformed most r);
+  «byte_at» = λ line k. equal-results (byteAt line k);
+  «number_at» = λ line k width. equal-results (numberAt line k width);
+  «line_end» = λ text at. equal-results (at + lineLength (drop at text));
+  «put_bytes» = λ room at bytes. equal-results-in-room (at + 2 * length bytes) (put room at (hexes bytes));
+  «put_number» = λ room at value width. equal-results-in-room (at + 2 * width) (put room at (hexes (numberBytes width value)));
+  «put_fields» = λ room at widths values. equal-results-in-room (at + 2 * length (fieldBytes widths values)) (put room at (hexes (fieldBytes widths values)));
+  «put_line» = λ room at widths values tail. equal-results-in-room (at + length (lineOf (fieldBytes widths values ++ tail))) (put room at (lineOf (fieldBytes widths values ++ tail)));
   order-new = λ number r₁ r₂ p q. equal-results (record { number = number }) r₁ r₂ (λ i. record { number = p i }) (λ i. record { number = q i });
   order-portion = λ number. equal-results (lengthAt portion number);
   order-interval = λ number. equal-results (lengthAt interval number);
