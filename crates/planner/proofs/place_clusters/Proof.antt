@@ -268,39 +268,9 @@ returns-3 c =
 pub place-clusters-spec : {M : Type 1} → statement M
 place-clusters-spec =
     tie.close
-    (tie.spec
-    wide-requires
-    wide-requires-2
-    portions-of-requires
-    parents-of-requires
-    array-share-prefix-parents
-    slice-aggregate-parents
-    shortest-period-requires
-    flows-of-requires
-    array-share-prefix-sources
-    slice-aggregate-sources
-    array-share-prefix-sinks
-    slice-aggregate-sinks
-    array-share-prefix-deadlines
-    slice-aggregate-deadlines
-    array-borrow-prefix-depths
-    slice-aggregate-depths
-    depths-requires
-    array-share-prefix-depths
-    slice-aggregate-depths-2
-    descents-of-requires
-    array-share-prefix-descents
-    slice-aggregate-descents
-    array-borrow-prefix-counts
-    slice-aggregate-search
-    search-requires
-    enum-told
-    enum-told-2
-    enum-known-found
-    array-share-prefix-counts
-    slice-aggregate-sequence
-    sequence-requires
-    returns
-    returns-2
-    same-length
+    (tie.spec wide-requires wide-requires-2 portions-of-requires parents-of-requires array-share-prefix-parents slice-aggregate-parents
+    shortest-period-requires flows-of-requires array-share-prefix-sources slice-aggregate-sources array-share-prefix-sinks slice-aggregate-sinks
+    array-share-prefix-deadlines slice-aggregate-deadlines array-borrow-prefix-depths slice-aggregate-depths depths-requires array-share-prefix-depths
+    slice-aggregate-depths-2 descents-of-requires array-share-prefix-descents slice-aggregate-descents array-borrow-prefix-counts slice-aggregate-search
+    search-requires enum-told enum-told-2 enum-known-found array-share-prefix-counts slice-aggregate-sequence sequence-requires returns returns-2 same-length
     returns-3)

@@ -266,52 +266,8 @@ returns-4 c = c .refused3 .ensures ∙ sym (left-missing (c .before .before .bef
 pub read-spec : {M : Type 1} → statement M
 read-spec =
     tie.close
-    (tie.spec
-    Inv-loop2
-    μ-loop2
-    Inv-loop
-    μ-loop
-    no-site-requires
-    loop-holds
-    line-end-requires
-    sub-line
-    part-line-start
-    part-line-end
-    read-line-requires
-    add-next
-    add-after
-    enum-known-entry
-    refused-requires
-    returns
-    enum-known-entry-2
-    loop-less
-    loop-again
-    enum-known-entry-3
-    tag-at-requires
-    sub-i
-    loop2-holds
-    mul-earlier
-    element-copy-out-earlier
-    same-tag-requires
-    refused-requires-2
-    returns-2
-    add-j
-    loop2-less
-    loop2-again
-    mul-cluster
-    element-set-from-cluster
-    loop-less-2
-    loop-again-2
-    enum-known-entry-4
-    sub-j
-    wide-requires
-    sub-j-2
-    mul-flow
-    element-set-from-flow
-    loop-less-3
-    loop-again-3
-    due-at-requires
-    accepted-requires
-    returns-3
-    refused-requires-3
-    returns-4)
+    (tie.spec Inv-loop2 μ-loop2 Inv-loop μ-loop no-site-requires loop-holds line-end-requires sub-line part-line-start part-line-end read-line-requires
+    add-next add-after enum-known-entry refused-requires returns enum-known-entry-2 loop-less loop-again enum-known-entry-3 tag-at-requires sub-i loop2-holds
+    mul-earlier element-copy-out-earlier same-tag-requires refused-requires-2 returns-2 add-j loop2-less loop2-again mul-cluster element-set-from-cluster
+    loop-less-2 loop-again-2 enum-known-entry-4 sub-j wide-requires sub-j-2 mul-flow element-set-from-flow loop-less-3 loop-again-3 due-at-requires
+    accepted-requires returns-3 refused-requires-3 returns-4)
