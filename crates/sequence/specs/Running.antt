@@ -4,7 +4,7 @@ use mathlib.Core.List.{List, [], _∷_, _++_, reverse, reverse-append, append-as
 use Prim.Native.Nat.{ℕ, zero, suc, _+_, _-_, _≤_, _<_}
 use native.Mathlib.Numerals.{add-one}
 use native.Mathlib.Omega.{arith}
-use lib.ListN.{length, take, drop, set, length-set}
+use lib.ListN.{length, take, drop, set, length-set, take-append-drop}
 use lib.Seq.{take-suc-set, drop-set-lt, length-take-le, drop-drop}
 use Rattle.model.specs.Sequences.{nextOnes}
 use Rattle.model.specs.SequenceLaws.{next-comes-first}
@@ -64,3 +64,9 @@ module _ (size : ℕ) (parent N : ℕ → ℕ) (earlier : List ℕ) where
         none-follow : (j : ℕ) → nextOnes size parent N j placed ≡ []
         none-follow zero = refl
         none-follow (suc j) = rw (none-comes-next size parent N placed held (w .holds) f, nextOnes)
+
+-- what a contract with Sequenced says of the room, as an equation
+pub sequenced-room : (size : ℕ) (parent N : ℕ → ℕ) (earlier later : List ℕ) (r : ℕ) → Sequenced size parent N earlier later r
+    → later ≡ inOrder size parent N ++ drop (length (inOrder size parent N)) earlier
+sequenced-room size parent N earlier later r w = let placed = inOrder size parent N in
+    sym (take-append-drop r later) ∙ ap (λ l. l ++ drop r later) (w .first) ∙ ap (λ l. placed ++ l) (w .behind) ∙ ap (λ k. placed ++ drop k earlier) (w .number)
