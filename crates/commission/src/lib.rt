@@ -7,7 +7,7 @@ ghost use mathlib.Core.Path.{_≡_};
 ghost use mathlib.Core.Bool.{cond};
 ghost use Prim.Native.Nat.{_≤_};
 ghost use lib.ListN.{length};
-ghost use Rattle.site.specs.Shown.{lineStart, lineAt};
+ghost use Rattle.shown.specs.Shown.{lineStart, lineAt};
 ghost use Rattle.commission.specs.Numbers.{refusalNumber, planNumber, planRoom, rewriteNumber, rewriteRoom};
 
 // A refusal as one number.
@@ -68,7 +68,7 @@ pub extern "C" fn cartheron_rewrite(text: &[u8], room: &mut [u8]) -> u32
 pub extern "C" fn cartheron_line_start(text: &[u8], line: usize) -> usize
     ensures { λ r. ⌜ r ≡ lineStart (now (text .entry)) line ⌝ }
 {
-    site::line_start(text, line)
+    shown::line_start(text, line)
 }
 
 // How many bytes the part has that is shown for a line.
@@ -76,5 +76,5 @@ pub extern "C" fn cartheron_line_start(text: &[u8], line: usize) -> usize
 pub extern "C" fn cartheron_line_length(text: &[u8], line: usize) -> usize
     ensures { λ r. ⌜ r ≡ length (lineAt (now (text .entry)) line) ⌝ }
 {
-    site::line_at(text, line).len()
+    shown::line_at(text, line).len()
 }

@@ -12,6 +12,7 @@ use lib.ListN.{length, take}
 use borrow.Author.Tests.{eqb-false}
 use Rattle.hexline.specs.Lines.{Row, rows}
 use Rattle.hexline.specs.Loops.{decide}
+use Rattle.model.specs.Exactness.{Placeable, Late, Misfit}
 use Rattle.site.specs.declared.Site.{Site}
 use Rattle.site.specs.declared.Verdict.{Verdict}
 use Rattle.site.specs.declared.Verdict.the-variants.{Accepted, Refused}
@@ -26,7 +27,7 @@ use Rattle.planner.specs.Answers.{answer, roomAfter}
 use Rattle.commission.specs.Numbers.{plannedNumber, planNumber, planRoom}
 use Rattle.roundtrip.specs.WriteOfRead.{write-of-read}
 use Rattle.exactness.specs.PlanRead.{startsIn}
-use Rattle.exactness.specs.PlannerExact.{Placeable, Late, Misfit, Places, ExactAnswer, plans as answersPlan, late as answersLate, misfit as answersMisfit, answered-by-three, planner-is-exact}
+use Rattle.exactness.specs.PlannerExact.{Places, ExactAnswer, plans as answersPlan, late as answersLate, misfit as answersMisfit, answered-by-three, planner-is-exact}
 
 -- ---- the statement
 

@@ -23,7 +23,7 @@ use Rattle.site.specs.Records.{sameTag}
 use Rattle.site.specs.Table.{entryOf}
 use Rattle.site.specs.Reading.{readText}
 use Rattle.site.specs.Check.{checked}
-use Rattle.site.specs.Shown.{lineStart, lineAt, Shown}
+use Rattle.shown.specs.Shown.{lineStart, lineAt, Shown}
 use Rattle.writer.specs.Text.{textOf, fitting, written, roomAfter as writtenRoom}
 use Rattle.plantext.specs.PlanText.{planText, siteOf}
 use Rattle.planner.specs.Answers.{answer, roomAfter, outcomeAnswer, outcomeRoom}

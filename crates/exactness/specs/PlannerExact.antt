@@ -14,7 +14,7 @@ use lib.Seq.{take-append-seam}
 use borrow.Author.Tests.{le-leb}
 use Rattle.hexline.specs.Lines.{rows}
 use Rattle.hexline.specs.Room.{handed}
-use Rattle.model.specs.Exactness.{Permitted, Fits, Placeless, Exact, plan-is-exact}
+use Rattle.model.specs.Exactness.{Permitted, Placeless, Placeable, Late, Misfit, Exact, plan-is-exact}
 use Rattle.model.specs.Placing.{Placing}
 use Rattle.model.specs.Plans.{Outcome, planned, noFit, noPlacing, plan}
 use Rattle.model.specs.Sequences.{starts}
@@ -33,18 +33,6 @@ use Rattle.exactness.specs.SameStarts.{same-starts-place}
 use Rattle.planner.specs.SiteLaws.{clusters-counted, describes-sound}
 
 -- ---- the statement
-
--- some permitted order has a placing
-abbrev pub Placeable : model.Site → Type 0
-Placeable s = (order : ℕ) × (start : ℕ → ℕ) × Permitted s order × Placing s order start
-
--- the portions fit a permitted order, and no permitted order has a placing
-abbrev pub Late : model.Site → Type 0
-Late s = ((order : ℕ) × Permitted s order × Fits s order) × ((order : ℕ) → Permitted s order → Placeless s order)
-
--- the portions fit no permitted order
-abbrev pub Misfit : model.Site → Type 0
-Misfit s = (order : ℕ) → Permitted s order → Fits s order → ⊥
 
 -- a plan text, read as a stranger would, is a plan of the site: a placing at the order that it shows, and no larger permitted order has any
 pub record Places (s : model.Site) (order : ℕ) (text : List ℕ) : Type 0 where

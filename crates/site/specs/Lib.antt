@@ -11,5 +11,3 @@ pub mod Check
 pub mod CheckLaws
 pub mod Checked
 pub mod SmallRefusals
-pub mod Shown
-pub mod ShownLaws

@@ -1,16 +1,13 @@
 // Sites (document 01, "Site text", "Refusal numbers"): the records, the line reader, the reader of
-// a whole text, the check of records and the part of a text shown for a line.
+// a whole text, and the check of records.
 mod checks;
 mod line;
 mod reader;
-mod shown;
 mod tags;
 
 pub use checks::check;
 pub use line::read_line;
 pub use reader::read;
-pub use shown::line_at;
-pub use shown::line_start;
 pub use tags::counted;
 pub use tags::same_tag;
 ghost use mathlib.Core.Path.{_≡_};

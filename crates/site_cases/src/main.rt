@@ -63,8 +63,8 @@ fn run_case(head: Head, text: &mut [u8]) -> bool
     }
     let reading = site::read(text);
     let line = print_reading(reading);
-    print_part(site::line_at(text, head.line));
-    print_part(site::line_at(text, line));
+    print_part(shown::line_at(text, head.line));
+    print_part(shown::line_at(text, line));
     let records = read_patches(reading.site, head.patches);
     print_writing(records, head.room);
     true

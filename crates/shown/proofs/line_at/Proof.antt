@@ -1,12 +1,12 @@
--- `site::shown::line_at` meets its contract. The part begins where `line_start` says, within the text, and ends where `line_end` says, within it too; so its place and its bytes are those of line k.
+-- `shown::line_at` meets its contract. The part begins where `line_start` says, within the text, and ends where `line_end` says, within it too; so its place and its bytes are those of line k.
 -- A part `&s[a..e]` has the place of `s` with `a` added to its offset, which is all that `place` asks.
 use mathlib.Core.Path.{ap}
 use Prim.Native.Nat.{ℕ}
 use native.Mathlib.Omega.{arith}
 use borrow.Author.Needs.{needs}
-use Rattle.site.specs.ShownLaws.{start-fits, end-fits, line-between}
-use Rattle.site.proofs.shown.line_at.Statement.{statement}
-use Rattle.site.proofs.shown.line_at.Tie as tie
+use Rattle.shown.specs.ShownLaws.{start-fits, end-fits, line-between}
+use Rattle.shown.proofs.line_at.Statement.{statement}
+use Rattle.shown.proofs.line_at.Tie as tie
 
 line-start-requires : tie.Need-line-start-requires
 line-start-requires c κs = search needs

@@ -1,6 +1,6 @@
-// The part of a text that is shown for a line.
+// The part of a text that is shown for a line (document 01, "Refusal numbers").
 ghost use mathlib.Core.Path.{_≡_};
-ghost use Rattle.site.specs.Shown.{lineStart, Shown};
+ghost use Rattle.shown.specs.Shown.{lineStart, Shown};
 
 // Where line k begins in a text, lines counted from 1; the text's end where there is no line k.
 pub fn line_start(text: &[u8], k: usize) -> usize

@@ -13,7 +13,7 @@ use borrow.Author.Tests.{eq-eqb, ne-eqb}
 use Rattle.hexline.specs.Loops.{decide}
 use Rattle.hexline.specs.Lines.{Row, onto, rows, lineLength}
 use Rattle.hexline.specs.LineLaws.{line-inside, rows-first}
-use Rattle.site.specs.Shown.{behindLines, lineStart, lineAt}
+use Rattle.shown.specs.Shown.{behindLines, lineStart, lineAt}
 
 behind-fits : (t : List ℕ) (n : ℕ) → behindLines t n ≤ length t
 unfolding behindLines

@@ -1,14 +1,14 @@
--- `site::shown::line_start` meets its contract. The invariant: `at` is within the text, and passing the lines that are left to pass from there on comes to where line k begins.
+-- `shown::line_start` meets its contract. The invariant: `at` is within the text, and passing the lines that are left to pass from there on comes to where line k begins.
 -- An LF passed is a line passed, another byte is none. The measure is what is left of the length.
 use mathlib.Core.Path.{_≡_}
 use Prim.Native.Nat.{_+_, _-_, _≤_}
 use native.Mathlib.Omega.{arith}
 use lib.ListN.{length, drop}
 use borrow.Author.Needs.{needs}
-use Rattle.site.specs.Shown.{behindLines, lineStart}
-use Rattle.site.specs.ShownLaws.{start-zero, start-behind, behind-no-line, behind-no-byte, behind-lf, behind-other}
-use Rattle.site.proofs.shown.line_start.Statement.{statement}
-use Rattle.site.proofs.shown.line_start.Tie as tie
+use Rattle.shown.specs.Shown.{behindLines, lineStart}
+use Rattle.shown.specs.ShownLaws.{start-zero, start-behind, behind-no-line, behind-no-byte, behind-lf, behind-other}
+use Rattle.shown.proofs.line_start.Statement.{statement}
+use Rattle.shown.proofs.line_start.Tie as tie
 
 abbrev Inv-loop : tie.InvT-loop
 Inv-loop text k at₀ left₀ at left = (at ≤ length text) × (at + behindLines (drop at text) left ≡ lineStart text k)
