@@ -34,12 +34,10 @@ use Rattle.exactness.specs.PlannerExact.{Places, ExactAnswer, plans as a
 pub record ExactNumber (text room : List ℕ) : Type 0 where
   pub planned-exactly : (planNumber text (length room) < 65536) ↔ ((s : Site) × (readText text ≡ accepted s) × Placeable (siteOf s))
   -- the plan text is the room's first bytes
-  pub plan-is-placing : planNumber text (length room) < 65536
-      → (s : Site) × (order : ℕ) × (readText text ≡ accepted s) × Places (siteOf s) order (take (planNumber text (length room)) (planRoom text room))
+  pub plan-is-placing : planNumber text (length room) < 65536 → (s : Site) × (order : ℕ) × (readText text ≡ accepted s) × Places (siteOf s) order (take (planNumber text (length room)) (planRoom text room))
   pub late-exactly : (planNumber text (length room) ≡ 65536 * 8) ↔ ((s : Site) × (readText text ≡ accepted s) × Late (siteOf s))
   pub misfit-exactly : (planNumber text (length room) ≡ 65536 * 7) ↔ ((s : Site) × (readText text ≡ accepted s) × Misfit (siteOf s))
-  pub refused-exactly : (number line : ℕ) → 1 ≤ number → number ≤ 6 → line < 65536
-      → (planNumber text (length room) ≡ 65536 * number + line) ↔ (readText text .verdict ≡ Refused number line)
+  pub refused-exactly : (number line : ℕ) → 1 ≤ number → number ≤ 6 → line < 65536 → (planNumber text (length room) ≡ 65536 * number + line) ↔ (readText text .verdict ≡ Refused number line)
 
 -- ---- the reader refuses by a number from 1 on
 

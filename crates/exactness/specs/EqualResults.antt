@@ -51,8 +51,7 @@ pub record EqualResults : Type 0 where
   pub «put_bytes» : (room : List ℕ) (at : ℕ) (bytes : List ℕ) → OneResultInRoom (at + 2 * length bytes) (put room at (hexes bytes))
   pub «put_number» : (room : List ℕ) (at value width : ℕ) → OneResultInRoom (at + 2 * width) (put room at (hexes (numberBytes width value)))
   pub «put_fields» : (room : List ℕ) (at : ℕ) (widths values : List ℕ) → OneResultInRoom (at + 2 * length (fieldBytes widths values)) (put room at (hexes (fieldBytes widths values)))
-  pub «put_line» : (room : List ℕ) (at : ℕ) (widths values tail : List ℕ)
-      → OneResultInRoom (at + length (lineOf (fieldBytes widths values ++ tail))) (put room at (lineOf (fieldBytes widths values ++ tail)))
+  pub «put_line» : (room : List ℕ) (at : ℕ) (widths values tail : List ℕ) → OneResultInRoom (at + length (lineOf (fieldBytes widths values ++ tail))) (put room at (lineOf (fieldBytes widths values ++ tail)))
   -- the orders
   pub order-new : (number : ℕ) (r₁ r₂ : Order) → r₁ .number ≡ number → r₂ .number ≡ number → r₁ ≡ r₂
   pub order-portion : (number : ℕ) → OneResult (lengthAt portion number)

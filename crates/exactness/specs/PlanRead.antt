@@ -9,12 +9,8 @@ use Rattle.hexline.specs.Lines.{Row, rows}
 use Rattle.model.specs.Counting.{bit, sumOver}
 
 -- byte 2 of the first line; 0 where there is none
-abbrev headerOrder : List Row → ℕ
-headerOrder [] = 0
-headerOrder (r ∷ rs) = byteAt (r .chars) 2
-
 unfoldable pub orderIn : List ℕ → ℕ
-orderIn text = headerOrder (rows text)
+orderIn text = elim (rows text) [ [] ↦ 0 | r ∷ rs ↦ byteAt (r .chars) 2 ]
 
 -- whether a line is a cluster's, and has the number c
 abbrev pub isLineOf : ℕ → Row → Bool

@@ -115,7 +115,7 @@ module _ (s : Site) (accepted : checked s ≡ Accepted) (order : ℕ) (sequence 
 
   pub order-in-plan-text : orderIn (planText s order sequence) ≡ order
   unfolding orderIn
-  order-in-plan-text = rw header-row (header-fields .1)
+  order-in-plan-text = rw (header-row, orderIn) (header-fields .1)
 
   pub starts-in-plan-text : (c : ℕ) → c < n → startsIn (planText s order sequence) c ≡ start c
   unfolding startsIn
