@@ -13,16 +13,7 @@ ghost use Rattle.hexline.specs.Room.{put};
 pub fn is_digit(b: u8) -> bool
     ensures { λ r. ⌜ r ≡ isDigit b ⌝ }
 {
-    if b < 48 {
-        return false;
-    }
-    if b <= 57 {
-        return true;
-    }
-    if b < 65 {
-        return false;
-    }
-    b <= 70
+    ((48 <= b) & (b <= 57)) | ((65 <= b) & (b <= 70))
 }
 
 // The value of a digit, and 0 for any other character.
@@ -84,14 +75,13 @@ pub fn number_at(line: &[u8], k: usize, width: usize) -> u64
 pub fn all_digits(line: &[u8]) -> bool
     ensures { λ r. ⌜ r ≡ allDigits (now (line .entry)) ⌝ }
 {
+    let mut all = true;
     let mut i: usize = 0;
     while i < line.len() {
-        if !is_digit(line[i]) {
-            return false;
-        }
+        all = all & is_digit(line[i]);
         i += 1;
     }
-    true
+    all
 }
 
 // Whether a line is no row of whole bytes: no digits, more than `most`, an odd number of them,

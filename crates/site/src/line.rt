@@ -39,18 +39,14 @@ fn printable_line(line: &[u8], len: u8) -> bool
     ensures { λ r. ⌜ r ≡ printableLine (now (line .entry)) len ⌝ }
 {
     let n = wide(len);
+    let mut all = true;
     let mut i: usize = 0;
     while i < n {
         let b = hexline::byte_at(line, 4 + i);
-        if b < 33 {
-            return false;
-        }
-        if b > 126 {
-            return false;
-        }
+        all = all & ((33 <= b) & (b <= 126));
         i += 1;
     }
-    true
+    all
 }
 
 // The four bytes from byte k of a line on, as a number.
