@@ -1,6 +1,6 @@
--- The bias does not matter: constraints settle as their biased forms do, where no debit is above the bias.
+-- The bias does not matter: constraints settle as their biased forms do, where no debit is above the bias. And the entries of a site say its constraints, biased.
 use mathlib.Core.Path.{_≡_, refl, sym, ap, _∙_}
-use mathlib.Core.List.{List, [], _∷_, map}
+use mathlib.Core.List.{List, [], _∷_, _++_, map, map-append}
 use mathlib.Core.Logic.{inl, inr}
 use mathlib.Core.Option.{Option, none, some}
 use Prim.Native.Nat.{ℕ, zero, suc, _+_, _-_, _≤_, _<_}
@@ -9,14 +9,20 @@ use lib.Dec.{leb}
 use lib.ListN.{set}
 use borrow.Author.Tests.{leb-true, leb-false}
 use Rattle.model.specs.ConstraintLaws.{Within}
-use Rattle.model.specs.Constraints.{Constraint, treeConstraints, descent, flowConstraint, flowConstraints, constraints}
+use Rattle.model.specs.Constraints.{Constraint, risesOnce, neverFalls, treeConstraints, descent, flowConstraint, flowConstraints, constraints}
 use Rattle.model.specs.Counting.{Each, at}
 use Rattle.model.specs.CountingLaws.{passes-or-fails, each-imply, each-map, each-append}
+use Rattle.model.specs.Orders.{interval}
 use Rattle.model.specs.Relaxing.{okay, allOkay, relax, round, settle}
 use Rattle.model.specs.RelaxingLaws.{okay-if, broken-if, relax-keeps, relax-lowers, relax-refuses, settle-ends}
 use Rattle.model.specs.Sites.{Flow, Site, size, parent, Sound}
 use Rattle.model.specs.TreeLaws.{depth-at-most}
-use Rattle.constraints.specs.Lists.{bias, biased}
+use Rattle.constraints.specs.declared.Constraint.{Constraint as Entry}
+use Rattle.constraints.specs.Entries.{bias, meaning, treeEntries, flowEntries, limitsOf}
+
+-- a constraint with its limit behind the bias
+abbrev pub biased : Constraint → Constraint
+biased k = record { from = k .from; to = k .to; credit = k .credit + bias - k .debit; debit = bias }
 
 -- the bias covers the debit
 abbrev pub Covered : Constraint → Type 0
@@ -90,3 +96,27 @@ module _ (s : Site) (sound : Sound s) (few : size s ≤ bias) where
       (flowConstraints s order)
       (tree-covered (parent s) 1 (size s - 1))
       (each-map (flowConstraint s order) Covered (s .flows) (each-imply (s .flows) (λ f e. omega (arith, descent-shallow f (e .1))) (sound .ends)))
+
+-- ## The entries of a site say its constraints
+
+tree-entries-say : (parent : ℕ → ℕ) (c k : ℕ) → map meaning (treeEntries parent c k) ≡ map biased (treeConstraints parent c k)
+unfolding treeEntries treeConstraints
+tree-entries-say parent c zero = refl
+tree-entries-say parent c (suc k) = ap (λ ks. biased (risesOnce parent c) ∷ (biased (neverFalls parent c) ∷ ks)) (tree-entries-say parent (suc c) k)
+
+module _ (s : Site) (order : ℕ) where
+  abbrev entries : List Flow → List Entry
+  entries fs = flowEntries (map (λ f. f .source) fs) (map (λ f. f .sink) fs) (limitsOf (map (descent s) fs) (map (λ f. f .deadline) fs) (interval order))
+
+  flow-entries-say : (fs : List Flow) → map meaning (entries fs) ≡ map biased (map (flowConstraint s order) fs)
+  unfolding flowEntries limitsOf
+  flow-entries-say [] = refl
+  flow-entries-say (f ∷ fs) = ap (λ ks. biased (flowConstraint s order f) ∷ ks) (flow-entries-say fs)
+
+  pub site-entries-say : map meaning (treeEntries (parent s) 1 (size s - 1) ++ entries (s .flows)) ≡ map biased (constraints s order)
+  unfolding constraints
+  site-entries-say = let tree = treeConstraints (parent s) 1 (size s - 1) in
+      map-append meaning (treeEntries (parent s) 1 (size s - 1)) (entries (s .flows))
+      ∙ ap (λ ks. ks ++ map meaning (entries (s .flows))) (tree-entries-say (parent s) 1 (size s - 1))
+      ∙ ap (λ ks. map biased tree ++ ks) (flow-entries-say (s .flows))
+      ∙ sym (map-append biased tree (flowConstraints s order))

@@ -1,4 +1,6 @@
-pub mod Lists
+pub mod Entries
+pub mod EntryLaws
 pub mod ListLaws
-pub mod FillLaws
+pub mod Steps
+pub mod StepLaws
 pub mod Biases

@@ -1,14 +1,21 @@
-// The constraints on N as three lent slices, and their relaxing (document 01, "The plan that is
-// returned").
+// The constraints on N as a lent list, and their relaxing (document 01, "The plan that is returned").
 ghost use mathlib.Core.Path.{_≡_};
-ghost use mathlib.Core.List.{[], _∷_, _++_, map};
-ghost use Prim.Native.Nat.{_+_, _-_, _*_, _/_, _^_, _≤_, _<_};
-ghost use lib.ListN.{length};
+ghost use mathlib.Core.List.{_++_, map};
+ghost use Prim.Native.Nat.{_+_, _-_, _*_, _/_, _≤_, _<_};
+ghost use lib.ListN.{length, drop, getD};
 ghost use Rattle.model.specs.ConstraintLaws.{Within};
-ghost use Rattle.model.specs.Constraints.{treeConstraints};
-ghost use Rattle.model.specs.Counting.{at as numberIn, Each};
-ghost use Rattle.model.specs.Relaxing.{settle};
-ghost use Rattle.constraints.specs.Lists.{entry, listOf, stored, Room, Kept, biased, FlowSlices, flowList, siteList, settledAs};
+ghost use Rattle.model.specs.Counting.{Each};
+ghost use Rattle.model.specs.Relaxing.{settle as settled};
+ghost use Rattle.constraints.specs.Entries.{blank, meaning, siteEntries, limitsOf, Shallow};
+ghost use Rattle.constraints.specs.Steps.{outcome, lowered, settledAs};
+
+// N(to) - N(from) is at most the limit. It may be below 0, so what stands here is BIAS above it. All
+// three are as wide as the limit, so that an entry has no gap and is taken apart without shifts.
+pub struct Constraint {
+    from: u32,
+    to: u32,
+    limit: u32,
+}
 
 // What relaxing comes to: distances that obey every constraint, or a loop of negative sum.
 pub enum Settling {
@@ -16,125 +23,119 @@ pub enum Settling {
     NegativeLoop,
 }
 
-// What stands in the slice of limits is this much above the limit, which may be below 0.
-const BIAS: usize = 64;
-
-// Stores one constraint at a place of the three slices, and gives the place behind it.
-fn store(
-    place: usize,
-    tail: u8,
-    head: u8,
-    above: usize,
-    from: &mut [u8],
-    to: &mut [u8],
-    limit: &mut [u32],
-) -> usize
-    requires { ⌜ (above < 2 ^ 32) × Room (place + 1) (now from) (now to) (now limit) ⌝ }
-    ensures { λ r. ⌜ (r ≡ place + 1) × (stored r (now (from .exit)) (now (to .exit)) (now (limit .exit)) ≡ stored place (now (from .entry)) (now (to .entry)) (now (limit .entry)) ++ (entry tail head above ∷ [])) ⌝ }
-{
-    from[place] = tail;
-    to[place] = head;
-    limit[place] = above as u32;
-    place + 1
+// What one constraint does to the distances: it is obeyed, or one distance is lowered, or that one
+// would fall below 0.
+pub enum Step {
+    Obeyed,
+    Lowered,
+    BelowZero,
 }
 
-// Stores the tree's constraints from the first place on, two for each cluster but the root, and
-// gives their number.
-fn fill_tree(parents: &[u8], from: &mut [u8], to: &mut [u8], limit: &mut [u32]) -> usize
-    requires { ⌜ (0 < length (now parents)) × (length (now parents) ≤ 64) × Room (2 * (length (now parents) - 1)) (now from) (now to) (now limit) ⌝ }
-    ensures { λ r. ⌜ (r ≡ 2 * (length (now (parents .entry)) - 1)) × (stored r (now (from .exit)) (now (to .exit)) (now (limit .exit)) ≡ map biased (treeConstraints (numberIn (now (parents .entry))) 1 (length (now (parents .entry)) - 1))) ⌝ }
-{
-    let mut place: usize = 0;
-    let mut c: usize = 1;
-    while c < parents.len() {
-        place = store(place, parents[c], c as u8, BIAS + 1, from, to, limit);
-        place = store(place, c as u8, parents[c], BIAS, from, to, limit);
-        c += 1;
-    }
-    place
-}
+const BIAS: u32 = 64;
 
 // The crossed periods that a deadline allows: one less than the whole intervals in it, or 0.
-fn allowed(deadline: u32, interval: u32) -> usize
+fn allowed(deadline: u32, interval: u32) -> u32
     requires { ⌜ 0 < interval ⌝ }
     ensures { λ r. ⌜ r ≡ deadline / interval - 1 ⌝ }
 {
-    let intervals = deadline as usize / interval as usize;
+    let intervals = deadline / interval;
     if intervals == 0 {
         return 0;
     }
     intervals - 1
 }
 
-// Stores the flows' constraints from a place on, and gives the place behind them.
-fn fill_flows(
-    start: usize,
-    sources: &[u8],
-    sinks: &[u8],
-    descents: &[u8],
-    deadlines: &[u32],
-    interval: u32,
-    from: &mut [u8],
-    to: &mut [u8],
-    limit: &mut [u32],
-) -> usize
-    requires { ⌜ FlowSlices (now sources) (now sinks) (now descents) (now deadlines) × (1 < interval) × Room (start + length (now sources)) (now from) (now to) (now limit) ⌝ }
-    ensures { λ r. ⌜ (r ≡ start + length (now (sources .entry))) × (stored r (now (from .exit)) (now (to .exit)) (now (limit .exit)) ≡ stored start (now (from .entry)) (now (to .entry)) (now (limit .entry)) ++ map biased (flowList (now (sources .entry)) (now (sinks .entry)) (now (descents .entry)) (now (deadlines .entry)) interval)) ⌝ }
+// Fills `limits` with the limit of each flow at an interval.
+pub fn limit_flows(descents: &[u8], deadlines: &[u32], interval: u32, limits: &mut [u32])
+    requires { ⌜ (1 < interval) × Shallow (now descents) × (length (now deadlines) ≡ length (now descents)) × (length (now limits) ≡ length (now descents)) ⌝ }
+    ensures { λ r. ⌜ now (limits .exit) ≡ limitsOf (now (descents .entry)) (now (deadlines .entry)) interval ⌝ }
 {
-    let mut place = start;
     let mut flow: usize = 0;
-    while flow < sources.len() {
-        let credit = allowed(deadlines[flow], interval) + BIAS;
-        place = store(
-            place,
-            sinks[flow],
-            sources[flow],
-            credit - descents[flow] as usize,
-            from,
-            to,
-            limit,
-        );
+    while flow < limits.len() {
+        limits[flow] = allowed(deadlines[flow], interval) + BIAS - descents[flow] as u32;
         flow += 1;
     }
-    place
 }
 
-// Stores the constraints of a site at an interval, the tree's and then the flows', and gives their
-// number.
-pub fn fill(
+// The constraint at a place of the list: the tree's come first, two for each cluster but the root,
+// and then one for each flow, from its sink to its source.
+fn constraint_at(
+    place: usize,
     parents: &[u8],
     sources: &[u8],
     sinks: &[u8],
-    descents: &[u8],
-    deadlines: &[u32],
-    interval: u32,
-    from: &mut [u8],
-    to: &mut [u8],
-    limit: &mut [u32],
-) -> usize
-    requires { ⌜ (0 < length (now parents)) × (length (now parents) ≤ 64) × FlowSlices (now sources) (now sinks) (now descents) (now deadlines) × (1 < interval) × Room (2 * (length (now parents) - 1) + length (now sources)) (now from) (now to) (now limit) ⌝ }
-    ensures { λ r. ⌜ (r ≡ length (siteList (now (parents .entry)) (now (sources .entry)) (now (sinks .entry)) (now (descents .entry)) (now (deadlines .entry)) interval)) × (stored r (now (from .exit)) (now (to .exit)) (now (limit .exit)) ≡ map biased (siteList (now (parents .entry)) (now (sources .entry)) (now (sinks .entry)) (now (descents .entry)) (now (deadlines .entry)) interval)) × Kept (now (from .entry)) (now (to .entry)) (now (limit .entry)) (now (from .exit)) (now (to .exit)) (now (limit .exit)) ⌝ }
+    limits: &[u32],
+) -> Constraint
+    requires { ⌜ (0 < length (now parents)) × (length (now parents) ≤ 64) × (length (now sinks) ≡ length (now sources)) × (length (now limits) ≡ length (now sources)) × (place < 2 * (length (now parents) - 1) + length (now sources)) ⌝ }
+    ensures { λ r. ⌜ r ≡ getD (siteEntries (now (parents .entry)) (now (sources .entry)) (now (sinks .entry)) (now (limits .entry))) place blank ⌝ }
 {
-    let start = fill_tree(parents, from, to, limit);
-    fill_flows(
-        start,
-        sources,
-        sinks,
-        descents,
-        deadlines,
-        interval,
-        from,
-        to,
-        limit,
-    )
+    let of_tree = 2 * (parents.len() - 1);
+    if of_tree <= place {
+        let flow = place - of_tree;
+        return Constraint {
+            from: sinks[flow] as u32,
+            to: sources[flow] as u32,
+            limit: limits[flow],
+        };
+    }
+    let child = place / 2 + 1;
+    if place % 2 == 0 {
+        Constraint {
+            from: parents[child] as u32,
+            to: child as u32,
+            limit: BIAS + 1,
+        }
+    } else {
+        Constraint {
+            from: child as u32,
+            to: parents[child] as u32,
+            limit: BIAS,
+        }
+    }
+}
+
+// Stores the constraints of a site from the first place on, and gives their number.
+fn fill(
+    list: &mut [Constraint],
+    parents: &[u8],
+    sources: &[u8],
+    sinks: &[u8],
+    limits: &[u32],
+) -> usize
+    requires { ⌜ (0 < length (now parents)) × (length (now parents) ≤ 64) × (length (now sinks) ≡ length (now sources)) × (length (now limits) ≡ length (now sources)) × (2 * (length (now parents) - 1) + length (now sources) ≤ length (now list)) ⌝ }
+    ensures { λ r. ⌜ (r ≡ 2 * (length (now (parents .entry)) - 1) + length (now (sources .entry))) × (now (list .exit) ≡ siteEntries (now (parents .entry)) (now (sources .entry)) (now (sinks .entry)) (now (limits .entry)) ++ drop (2 * (length (now (parents .entry)) - 1) + length (now (sources .entry))) (now (list .entry))) ⌝ }
+{
+    let count = 2 * (parents.len() - 1) + sources.len();
+    let mut place: usize = 0;
+    while place < count {
+        list[place] = constraint_at(place, parents, sources, sinks, limits);
+        place += 1;
+    }
+    count
+}
+
+// Lowers the distance of `to` as far as the constraint asks, unless it would fall below 0.
+fn lower(from: u32, to: u32, limit: u32, distances: &mut [u8]) -> Step
+    requires { ⌜ (from < length (now distances)) × (to < length (now distances)) ⌝ }
+    ensures { λ r. ⌜ (r ≡ outcome (record { from = from; to = to; limit = limit }) (now (distances .entry))) × (now (distances .exit) ≡ lowered (record { from = from; to = to; limit = limit }) (now (distances .entry))) ⌝ }
+{
+    let reach = distances[from as usize] as usize + limit as usize;
+    if distances[to as usize] as usize + BIAS as usize <= reach {
+        return Step::Obeyed;
+    }
+    if reach < BIAS as usize {
+        return Step::BelowZero;
+    }
+    distances[to as usize] = (reach - BIAS as usize) as u8;
+    Step::Lowered
 }
 
 // Relaxes the distances in place, round after round, until a round changes nothing. A distance
 // that would fall below 0, or as many rounds as there are distances without such a one, is a loop
 // of negative sum.
-pub fn relax(from: &[u8], to: &[u8], limit: &[u32], distances: &mut [u8]) -> Settling
-    requires { ⌜ (length (now to) ≡ length (now from)) × (length (now limit) ≡ length (now from)) × Each (Within (length (now distances))) (listOf (now from) (now to) (now limit)) ⌝ }
-    ensures { λ r. ⌜ (settle (length (now (distances .entry))) (listOf (now (from .entry)) (now (to .entry)) (now (limit .entry))) (now (distances .entry)) ≡ settledAs r (now (distances .exit))) × (length (now (distances .exit)) ≡ length (now (distances .entry))) ⌝ }
+fn relax(list: &[Constraint], distances: &mut [u8]) -> Settling
+    requires { ⌜ Each (Within (length (now distances))) (map meaning (now list)) ⌝ }
+    ensures { λ r. ⌜ (settled (length (now (distances .entry))) (map meaning (now (list .entry))) (now (distances .entry)) ≡ settledAs r (now (distances .exit))) × (length (now (distances .exit)) ≡ length (now (distances .entry))) ⌝ }
 {
     let mut left = distances.len();
     'rounds: loop {
@@ -143,16 +144,13 @@ pub fn relax(from: &[u8], to: &[u8], limit: &[u32], distances: &mut [u8]) -> Set
         }
         let mut changed = false;
         let mut i: usize = 0;
-        while i < from.len() {
-            let tail = from[i] as usize;
-            let head = to[i] as usize;
-            let reach = distances[tail] as usize + limit[i] as usize;
-            if reach < distances[head] as usize + BIAS {
-                if reach < BIAS {
-                    break 'rounds Settling::NegativeLoop;
-                }
-                distances[head] = (reach - BIAS) as u8;
-                changed = true;
+        while i < list.len() {
+            let constraint = list[i];
+            let step = lower(constraint.from, constraint.to, constraint.limit, distances);
+            match step {
+                Step::Obeyed => {}
+                Step::Lowered => changed = true,
+                Step::BelowZero => break 'rounds Settling::NegativeLoop,
             }
             i += 1;
         }
@@ -161,4 +159,26 @@ pub fn relax(from: &[u8], to: &[u8], limit: &[u32], distances: &mut [u8]) -> Set
         }
         left -= 1;
     }
+}
+
+// Relaxes the distances over the constraints of a site, with the limits of its flows: the list is
+// made, filled and relaxed here, and no other function needs one.
+pub fn settle(
+    parents: &[u8],
+    sources: &[u8],
+    sinks: &[u8],
+    limits: &[u32],
+    distances: &mut [u8],
+) -> Settling
+    requires { ⌜ (0 < length (now parents)) × (length (now parents) ≤ 64) × (length (now sources) ≤ 128) × (length (now sinks) ≡ length (now sources)) × (length (now limits) ≡ length (now sources)) ⌝ }
+    requires { ⌜ Each (Within (length (now distances))) (map meaning (siteEntries (now parents) (now sources) (now sinks) (now limits))) ⌝ }
+    ensures { λ r. ⌜ (settled (length (now (distances .entry))) (map meaning (siteEntries (now (parents .entry)) (now (sources .entry)) (now (sinks .entry)) (now (limits .entry)))) (now (distances .entry)) ≡ settledAs r (now (distances .exit))) × (length (now (distances .exit)) ≡ length (now (distances .entry))) ⌝ }
+{
+    let mut list = [Constraint {
+        from: 0,
+        to: 0,
+        limit: 0,
+    }; 254];
+    let count = fill(&mut list, parents, sources, sinks, limits);
+    relax(&list[..count], distances)
 }

@@ -1,4 +1,4 @@
--- The list of constraints that the slices of a site give: it is the site's, its clusters are there, and the bias covers it. And the search one order on.
+-- The list of constraints that the slices of a site give is the site's, and its clusters are there. And the search one order on.
 use mathlib.Core.Path.{_≡_, sym, ap, _∙_}
 use mathlib.Core.Bool.{Bool, true, false, _&&_}
 use mathlib.Core.List.{List, [], _∷_, _++_, map, append-nil}
@@ -10,10 +10,10 @@ use lib.Dec.{leb}
 use lib.ListN.{length, take, drop, length-map, drop-of-length-le}
 use lib.Seq.{take-length}
 use lib.Pow.{pow-mono}
-use Rattle.model.specs.Constraints.{Constraint, treeConstraints, descent, flowConstraint, flowConstraints, constraints}
+use Rattle.model.specs.Constraints.{Constraint, descent, constraints}
 use Rattle.model.specs.ConstraintLaws.{Within, constraints-within}
 use Rattle.model.specs.Counting.{Each, at}
-use Rattle.model.specs.CountingLaws.{each-imply, each-map, each-append}
+use Rattle.model.specs.CountingLaws.{each-map}
 use Rattle.model.specs.Orders.{base, symbols, interval, permitted}
 use Rattle.model.specs.Plans.{fits, candidate, planned, noFit, noPlacing, search, plan}
 use Rattle.model.specs.PlanLaws.{search-passes, search-goes-on, search-ends}
@@ -21,10 +21,8 @@ use Rattle.model.specs.Relaxing.{settle, depths, solve}
 use Rattle.model.specs.RelaxingLaws.{depths-length}
 use Rattle.model.specs.Sequences.{sequence}
 use Rattle.model.specs.Sites.{Flow, Site, size, parent, Sound}
-use Rattle.model.specs.TreeLaws.{depth-at-most}
-use Rattle.constraints.specs.Lists.{biased, FlowSlices, siteList}
-use Rattle.constraints.specs.Biases.{Covered, settle-biased}
-use Rattle.constraints.specs.FillLaws.{constraints-filled, site-list-length}
+use Rattle.constraints.specs.Biases.{biased, settle-biased, descent-shallow, constraints-covered, site-entries-say}
+use Rattle.constraints.specs.Entries.{meaning, siteEntries, limitsOf, Shallow}
 use Rattle.search.specs.Posed.{Posed, Limited}
 
 pub interval-positive : (o : ℕ) → 960 ≤ interval o
@@ -32,75 +30,56 @@ unfolding symbols
 interval-positive o = mul-le-mul-left base (pow-mono {i = 0} {j = o} (omega arith))
 
 module _ (s : Site) (w : Sound s) (few : size s ≤ 64) where
-  -- a flow descends by at most 63
-  pub descent-bounded : (f : Flow) → f .sink < size s → descent s f ≤ 63
-  unfolding descent
-  descent-bounded f l = omega (arith, depth-at-most (parent s) (size s) (w .tree) (f .sink) l)
-
-  tree-covered : (c k : ℕ) → Each Covered (treeConstraints (parent s) c k)
-  unfolding treeConstraints
-  tree-covered c zero = tt
-  tree-covered c (suc k) = (omega arith, (omega arith, tree-covered (suc c) k))
-
-  constraints-covered : (order : ℕ) → Each Covered (constraints s order)
-  unfolding constraints
-  constraints-covered order =
-      each-append
-      Covered
-      (treeConstraints (parent s) 1 (size s - 1))
-      (flowConstraints s order)
-      (tree-covered 1 (size s - 1))
-      (each-map (flowConstraint s order) Covered (s .flows) (each-imply (s .flows) (λ f e. omega (arith, descent-bounded f (e .1))) (w .ends)))
-
-  pub bias-settles : (order : ℕ) → settle (size s) (map biased (constraints s order)) (depths s) ≡ solve s order
+  bias-settles : (order : ℕ) → settle (size s) (map biased (constraints s order)) (depths s) ≡ solve s order
   unfolding solve
-  bias-settles order = settle-biased (size s) (constraints s order) (depths s) (constraints-covered order)
+  bias-settles order = settle-biased (size s) (constraints s order) (depths s) (constraints-covered s w few order)
 
-  each-descent : (fs : List Flow) → Each (λ f. (f .source < size s) × (f .sink < size s)) fs → (i : ℕ) → i < length (map (descent s) fs) → at (map (descent s) fs) i ≤ 63
+  each-descent : (fs : List Flow) → Each (λ f. (f .source < size s) × (f .sink < size s)) fs → Shallow (map (descent s) fs)
   each-descent [] e i l = absurd (omega arith)
-  each-descent (f ∷ fs) e zero l = descent-bounded f (e .0 .1)
+  each-descent (f ∷ fs) e zero l = descent-shallow s w few f (e .0 .1)
   each-descent (f ∷ fs) e (suc i) l = each-descent fs (e .1) i (omega arith)
 
 module _ (s : Site) (ps ss ts ds es ls : List ℕ) (w : Posed s ps ss ts ds es ls) where
-  pub flows-number : length ss ≡ length (s .flows)
-  flows-number = ap length (w .sources-are) ∙ length-map (s .flows) (λ f. f .source)
-
-  pub flow-slices : FlowSlices ss ts ds es
-  flow-slices = record {
-    sinks = ap length (w .sinks-are) ∙ length-map (s .flows) (λ f. f .sink) ∙ sym flows-number;
-    descents = ap length (w .descents-are) ∙ length-map (s .flows) (descent s) ∙ sym flows-number;
-    deadlines = ap length (w .deadlines-are) ∙ length-map (s .flows) (λ f. f .deadline) ∙ sym flows-number;
-    shallow = rw (w .descents-are) (each-descent s (w .sound) (w .few) (s .flows) (w .sound .ends));
-  }
-
   pub clusters-number : length ps ≡ size s
   clusters-number = ap length (w .parents-are)
 
   pub levels-number : length ls ≡ size s
   levels-number = ap length (w .levels-are) ∙ depths-length s
 
-  -- what is filled in is the site's list
-  posed-list : (order : ℕ) → siteList ps ss ts ds es (interval order) ≡ constraints s order
-  posed-list order = rw (w .parents-are, w .sources-are, w .sinks-are, w .descents-are, w .deadlines-are) (constraints-filled s order)
+  flows-number : length ss ≡ length (s .flows)
+  flows-number = ap length (w .sources-are) ∙ length-map (s .flows) (λ f. f .source)
 
-  -- it has at most 254 constraints
-  pub few-constraints : 2 * (length ps - 1) + length ss ≤ 254
-  few-constraints = omega (arith, clusters-number, flows-number, w .few, w .not-many)
+  -- there are at most 128 flows, each with a source, a sink, a descent of at most 63 and a deadline
+  pub flows-fit : length ss ≤ 128
+  flows-fit = omega (arith, flows-number, w .not-many)
 
-  pub list-fits : (p : ℕ) → length (siteList ps ss ts ds es p) ≤ 254
-  list-fits p = omega (arith, site-list-length ps ss ts ds es p flow-slices, few-constraints)
+  pub sinks-number : length ts ≡ length ss
+  sinks-number = ap length (w .sinks-are) ∙ length-map (s .flows) (λ f. f .sink) ∙ sym flows-number
 
-  module _ (order p : ℕ) (list : List Constraint) (e : list ≡ map biased (siteList ps ss ts ds es p)) (q : p ≡ interval order) where
-    list-is : list ≡ map biased (constraints s order)
-    list-is = e ∙ ap (λ (i : ℕ). map biased (siteList ps ss ts ds es i)) q ∙ ap (map biased) (posed-list order)
+  pub descents-number : length ds ≡ length ss
+  descents-number = ap length (w .descents-are) ∙ length-map (s .flows) (descent s) ∙ sym flows-number
 
-    -- its clusters are the site's
+  pub deadlines-number : length es ≡ length ds
+  deadlines-number = ap length (w .deadlines-are) ∙ length-map (s .flows) (λ f. f .deadline) ∙ sym (ap length (w .descents-are) ∙ length-map (s .flows) (descent s))
+
+  pub descents-shallow : Shallow ds
+  descents-shallow = rw (w .descents-are) (each-descent s (w .sound) (w .few) (s .flows) (w .sound .ends))
+
+  -- the entries made with the limits at an order's interval say the site's constraints, biased
+  module _ (order p : ℕ) (limits : List ℕ) (e : limits ≡ limitsOf ds es p) (q : p ≡ interval order) where
+    abbrev list : List Constraint
+    list = map meaning (siteEntries ps ss ts limits)
+
+    entries-say : list ≡ map biased (constraints s order)
+    entries-say = rw (e, q, w .parents-are, w .sources-are, w .sinks-are, w .descents-are, w .deadlines-are) (site-entries-say s order)
+
+    -- their clusters are the site's
     pub list-within : (n : ℕ) → n ≡ size s → Each (Within n) list
-    list-within n f = rw (f, list-is) (each-map biased (Within (size s)) (constraints s order) (constraints-within s order (w .sound)))
+    list-within n f = rw (f, entries-say) (each-map biased (Within (size s)) (constraints s order) (constraints-within s order (w .sound)))
 
-    -- from the depths on it settles as the site's constraints do
+    -- from the depths on they settle as the site's constraints do
     pub list-settles : (counts : List ℕ) → counts ≡ ls → settle (length counts) list counts ≡ solve s order
-    list-settles counts f = rw (f, w .levels-are, depths-length s, list-is) (bias-settles s (w .sound) (w .few) order)
+    list-settles counts f = rw (f, w .levels-are, depths-length s, entries-say) (bias-settles s (w .sound) (w .few) order)
 
 -- as many distances as there are depths, copied over
 pub copied : (depths counts : List ℕ) → length counts ≡ length depths → take (length depths) depths ++ drop (length depths) counts ≡ depths

@@ -12,7 +12,7 @@ ghost use Rattle.model.specs.Orders.{interval, permitted};
 ghost use Rattle.model.specs.Plans.{plan};
 ghost use Rattle.model.specs.Relaxing.{solve};
 ghost use Rattle.model.specs.Sites.{Site};
-ghost use Rattle.constraints.specs.Lists.{settledAs};
+ghost use Rattle.constraints.specs.Steps.{settledAs};
 ghost use Rattle.search.specs.Posed.{Posed, Limited, foundAs};
 
 // What the search comes to: the order, or that the portions fit no permitted order, or that no
@@ -51,22 +51,11 @@ fn settle_at(
     requires { ⌜ (length (now counts) ≡ length (now parents)) × ((s : Site) × Posed s (now parents) (now sources) (now sinks) (now descents) (now deadlines) (now depths)) ⌝ }
     ensures { λ r. ⌜ ((s : Site) → Posed s (now (parents .entry)) (now (sources .entry)) (now (sinks .entry)) (now (descents .entry)) (now (deadlines .entry)) (now (depths .entry)) → solve s (order .number) ≡ settledAs r (now (counts .exit))) ⌝ }
 {
-    let mut from = [0; 254];
-    let mut to = [0; 254];
-    let mut limit = [0; 254];
-    let n = constraints::fill(
-        parents,
-        sources,
-        sinks,
-        descents,
-        deadlines,
-        order.interval(),
-        &mut from,
-        &mut to,
-        &mut limit,
-    );
+    let flows = sources.len();
+    let mut limits = [0; 128];
+    constraints::limit_flows(descents, deadlines, order.interval(), &mut limits[..flows]);
     bytes::copy(depths, counts);
-    constraints::relax(&from[..n], &to[..n], &limit[..n], counts)
+    constraints::settle(parents, sources, sinks, &limits[..flows], counts)
 }
 
 // The largest order that `shortest` permits, at which portions of that sum fit and which has a

@@ -6,7 +6,7 @@ use native.Mathlib.Omega.{arith}
 use lib.ListN.{length}
 use Rattle.model.specs.Plans.{plan, search as searchBelow}
 use Rattle.model.specs.Sites.{Site}
-use Rattle.constraints.specs.Lists.{settledAs}
+use Rattle.constraints.specs.Steps.{settledAs}
 use Rattle.search.specs.Posed.{Posed, Limited, foundAs}
 use Rattle.search.specs.PosedLaws.{order-passed, order-unsolved, order-solved, no-order-solved, no-order-fitted}
 use borrow.Author.Needs.{needs}

@@ -1,0 +1,49 @@
+-- The constraints as a list of small structs, each with its from, its to and its limit. A limit may be below 0, so it stands behind a bias of 64: "N(to) - N(from) is at most
+-- the limit" (document 01, "The plan that is returned") is N(to) + 64 ≤ N(from) + what stands in the entry.
+use mathlib.Core.List.{List, [], _∷_, _++_}
+use Prim.Native.Nat.{ℕ, zero, suc, _+_, _-_, _≤_, _<_}
+use lib.ListN.{length}
+use Rattle.model.specs.Constraints.{Constraint}
+use Rattle.model.specs.Counting.{at}
+use Rattle.model.specs.Crossings.{allowed}
+use Rattle.constraints.specs.declared.Constraint.{Constraint as Entry}
+
+abbrev pub bias : ℕ
+bias = 64
+
+abbrev pub entry : ℕ → ℕ → ℕ → Entry
+entry f t l = record { from = f; to = t; limit = l }
+
+-- what stands behind the end of a list
+abbrev pub blank : Entry
+blank = entry 0 0 0
+
+-- the constraint that an entry says
+abbrev pub meaning : Entry → Constraint
+meaning e = record { from = e .from; to = e .to; credit = e .limit; debit = bias }
+
+-- the two entries of each of the k clusters from c on: N of the child is at most 1 above its parent's, and not below it
+unfoldable pub treeEntries : (ℕ → ℕ) → ℕ → ℕ → List Entry
+treeEntries parent c zero = []
+treeEntries parent c (suc k) = entry (parent c) c (bias + 1) ∷ (entry c (parent c) bias ∷ treeEntries parent (suc c) k)
+
+-- the entry of each flow, from its sink to its source
+unfoldable pub flowEntries : List ℕ → List ℕ → List ℕ → List Entry
+flowEntries [] ts ls = []
+flowEntries (s ∷ ss) [] ls = []
+flowEntries (s ∷ ss) (t ∷ ts) [] = []
+flowEntries (s ∷ ss) (t ∷ ts) (l ∷ ls) = entry t s l ∷ flowEntries ss ts ls
+
+-- the list of a site, from the clusters' parents and the flows' sources, sinks and limits
+abbrev pub siteEntries : List ℕ → List ℕ → List ℕ → List ℕ → List Entry
+siteEntries ps ss ts ls = treeEntries (at ps) 1 (length ps - 1) ++ flowEntries ss ts ls
+
+-- the flows' limits from their descents and deadlines, at an interval
+unfoldable pub limitsOf : List ℕ → List ℕ → ℕ → List ℕ
+limitsOf [] es p = []
+limitsOf (d ∷ ds) [] p = []
+limitsOf (d ∷ ds) (e ∷ es) p = (allowed e p + bias - d) ∷ limitsOf ds es p
+
+-- no flow descends by more than 63
+abbrev pub Shallow : List ℕ → Type 0
+Shallow ds = (i : ℕ) → i < length ds → at ds i ≤ 63
