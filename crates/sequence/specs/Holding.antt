@@ -1,13 +1,13 @@
 -- What the contracts cite (document 01, "The plan that is returned"). A number for each cluster says how much holds it back, and "the lowest-numbered cluster all of whose required
 -- predecessors are placed" is the first that nothing holds back.
 use mathlib.Core.Path.{_≡_}
+use mathlib.Core.Bool.{Bool, true, false, not, _&&_}
 use mathlib.Core.List.{List, []}
 use Prim.Native.Nat.{ℕ, _+_, _≤_, _<_}
-use lib.Dec.{eqb}
+use lib.Dec.{leb, ltb, eqb}
 use lib.ListN.{length, take, drop}
-use Rattle.model.specs.Counting.{at, bit, member}
-use Rattle.model.specs.Sequences.{before, nextOnes}
-use Rattle.model.specs.SequenceLaws.{waiting}
+use Rattle.model.specs.Counting.{at, bit, member, sumBelow}
+use Rattle.model.specs.Sequences.{isParent, nextOnes}
 use Rattle.sequence.specs.declared.Found.{Found}
 use Rattle.sequence.specs.declared.Found.the-variants.{At, Nothing}
 
@@ -16,7 +16,33 @@ pub record Sized (parents counts : List ℕ) : Type 0 where
   pub few : length parents ≤ 64
   pub counted : length counts ≡ length parents
 
--- how much holds c back: each required predecessor that is not placed and, since it is placed only once, itself where it is placed
+-- of a cluster c and its parent p, the one that comes after the other
+unfoldable pub laterOf : (ℕ → ℕ) → ℕ → ℕ → ℕ
+laterOf N p c = elim (ltb (N p) (N c)) [ true ↦ c | false ↦ p ]
+
+-- whether q is the parent of c and comes before it
+abbrev pub parentFirst : (ℕ → ℕ) → (ℕ → ℕ) → ℕ → ℕ → Bool
+parentFirst parent N q c = isParent parent q c && ltb (N q) (N c)
+
+-- whether q is a child of c and comes before it
+abbrev pub childFirst : (ℕ → ℕ) → (ℕ → ℕ) → ℕ → ℕ → Bool
+childFirst parent N q c = isParent parent c q && leb (N q) (N c)
+
+-- how much q holds c back: once where it comes before c as its parent, and once where it does as its child. So it is above 0 just where q is a required predecessor of c, and 2 only
+-- where each is given as the parent of the other
+abbrev pub holds : (ℕ → ℕ) → (ℕ → ℕ) → ℕ → ℕ → ℕ
+holds parent N q c = bit (parentFirst parent N q c) + bit (childFirst parent N q c)
+
+-- whether the parent of c is one of the clusters and comes before it
+abbrev pub followsParent : ℕ → (ℕ → ℕ) → (ℕ → ℕ) → ℕ → Bool
+followsParent size parent N c = ltb (parent c) size && parentFirst parent N (parent c) c
+
+-- how much c waits: for its parent and for each of its children that come before it and are not placed
+unfoldable pub waiting : ℕ → (ℕ → ℕ) → (ℕ → ℕ) → List ℕ → ℕ → ℕ
+waiting size parent N placed c =
+    bit (followsParent size parent N c && not (member (parent c) placed)) + sumBelow size (λ q. bit (childFirst parent N q c && not (member q placed)))
+
+-- how much holds c back: what it waits for and, since it is placed only once, itself where it is placed
 unfoldable pub holding : ℕ → (ℕ → ℕ) → (ℕ → ℕ) → List ℕ → ℕ → ℕ
 holding size parent N placed c = waiting size parent N placed c + bit (member c placed)
 
@@ -30,17 +56,27 @@ abbrev pub LowestFree : ℕ → List ℕ → Found → Type 0
 LowestFree size held (At x) = (x < size) × (at held x ≡ 0) × ((c : ℕ) → c < x → at held c ≡ 0 → ⊥)
 LowestFree size held Nothing = (c : ℕ) → c < size → at held c ≡ 0 → ⊥
 
+-- the entry of each cluster counts what it is to be lowered by
+pub record Lowerable (size : ℕ) (by : ℕ → ℕ) (held : List ℕ) : Type 0 where
+  pub room : length held ≡ 64
+  pub each : (c : ℕ) → c < size → by c ≤ at held c
+
+-- and is lowered by it
+pub record Lowered (size : ℕ) (by : ℕ → ℕ) (earlier later : List ℕ) : Type 0 where
+  pub room : length later ≡ 64
+  pub each : (c : ℕ) → c < size → at later c + by c ≡ at earlier c
+
 -- nothing holds x back, and x is counted wherever it holds another back
 pub record Releasing (size : ℕ) (parent N : ℕ → ℕ) (x : ℕ) (held : List ℕ) : Type 0 where
   pub room : length held ≡ 64
   pub there : x < size
   pub free : at held x ≡ 0
-  pub counted : (c : ℕ) → c < size → bit (before parent N x c) ≤ at held c
+  pub counted : (c : ℕ) → c < size → holds parent N x c ≤ at held c
 
 -- x is placed: it no longer holds others back, and from now on itself
 pub record Released (size : ℕ) (parent N : ℕ → ℕ) (x : ℕ) (earlier later : List ℕ) : Type 0 where
   pub room : length later ≡ 64
-  pub each : (c : ℕ) → c < size → at later c + bit (before parent N x c) ≡ at earlier c + bit (eqb c x)
+  pub each : (c : ℕ) → c < size → at later c + holds parent N x c ≡ at earlier c + bit (eqb c x)
 
 -- the clusters in order of start
 abbrev pub inOrder : ℕ → (ℕ → ℕ) → (ℕ → ℕ) → List ℕ

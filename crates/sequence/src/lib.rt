@@ -1,14 +1,13 @@
 // The clusters in order of start (document 01, "The plan that is returned"): each time the
 // lowest-numbered cluster all of whose required predecessors are placed comes next. How much holds
-// each cluster back is counted once and lowered as clusters are placed, so that n clusters take
-// about 3 * n * n steps.
+// each cluster back is counted once, in a pass over the clusters and their parents, and lowered as
+// clusters are placed, so that n clusters take about 2 * n * n steps.
 ghost use mathlib.Core.Path.{_≡_};
 ghost use mathlib.Core.List.{[]};
 ghost use Prim.Native.Nat.{_≤_, _<_};
 ghost use lib.ListN.{length};
 ghost use Rattle.model.specs.Counting.{at, bit};
-ghost use Rattle.model.specs.Sequences.{isParent, before};
-ghost use Rattle.sequence.specs.Holding.{Sized, holding, Held, LowestFree, Releasing, Released, Sequenced};
+ghost use Rattle.sequence.specs.Holding.{Sized, laterOf, parentFirst, childFirst, Held, LowestFree, Lowerable, Lowered, Releasing, Released, Sequenced};
 
 // The cluster that comes next, if one does.
 enum Found {
@@ -22,48 +21,29 @@ fn wide(b: u8) -> usize
     b as usize
 }
 
-// Whether p is the parent of c. The root has none.
-fn is_parent(parents: &[u8], p: usize, c: usize) -> bool
-    requires { ⌜ c < length (now parents) ⌝ }
-    ensures { λ r. ⌜ r ≡ isParent (at (now (parents .entry))) p c ⌝ }
+// The one of c and its parent p that comes after the other: c where the count grows, and p where it
+// stays.
+fn later_of(counts: &[u8], p: usize, c: usize) -> usize
+    requires { ⌜ (p < length (now counts)) × (c < length (now counts)) ⌝ }
+    ensures { λ r. ⌜ r ≡ laterOf (at (now (counts .entry))) p c ⌝ }
 {
-    (0 < c) & (wide(parents[c]) == p)
+    if counts[p] < counts[c] { c } else { p }
 }
 
-// 1 where q is a required predecessor of c, and 0 otherwise: a parent comes before its child where
-// the count grows, and after it where the count stays.
-fn precedes(parents: &[u8], counts: &[u8], q: usize, c: usize) -> u8
-    requires { ⌜ Sized (now parents) (now counts) × (q < length (now parents)) × (c < length (now parents)) ⌝ }
-    ensures { λ r. ⌜ r ≡ bit (before (at (now (parents .entry))) (at (now (counts .entry))) q c) ⌝ }
-{
-    let parent_first = is_parent(parents, q, c) & (counts[q] < counts[c]);
-    let child_first = is_parent(parents, c, q) & (counts[q] <= counts[c]);
-    (parent_first | child_first) as u8
-}
-
-// How many required predecessors c has: that much holds it back before any cluster is placed.
-fn predecessors(parents: &[u8], counts: &[u8], c: usize) -> u8
-    requires { ⌜ Sized (now parents) (now counts) × (c < length (now parents)) ⌝ }
-    ensures { λ r. ⌜ r ≡ holding (length (now (parents .entry))) (at (now (parents .entry))) (at (now (counts .entry))) [] c ⌝ }
-{
-    let mut number: u8 = 0;
-    let mut q: usize = 0;
-    while q < parents.len() {
-        number += precedes(parents, counts, q, c);
-        q += 1;
-    }
-    number
-}
-
-// How much holds each cluster back before any cluster is placed.
+// How much holds each cluster back before any cluster is placed: of each cluster and its parent, one
+// waits for the other.
 fn held_at_first(parents: &[u8], counts: &[u8]) -> [u8; 64]
     requires { ⌜ Sized (now parents) (now counts) ⌝ }
     ensures { λ r. ⌜ Held (length (now (parents .entry))) (at (now (parents .entry))) (at (now (counts .entry))) [] r ⌝ }
 {
     let mut held = [0; 64];
-    let mut c: usize = 0;
+    let mut c: usize = 1;
     while c < parents.len() {
-        held[c] = predecessors(parents, counts, c);
+        let p = wide(parents[c]);
+        if p < parents.len() {
+            let later = later_of(counts, p, c);
+            held[later] += 1;
+        }
         c += 1;
     }
     held
@@ -84,16 +64,38 @@ fn next_free(held: &[u8; 64], n: usize) -> Found
     Found::Nothing
 }
 
+// The children of x that come after it no longer wait for it.
+fn release_children(parents: &[u8], counts: &[u8], held: &mut [u8; 64], x: usize)
+    requires { ⌜ Sized (now parents) (now counts) × (x < length (now parents)) × Lowerable (length (now parents)) (λ c. bit (parentFirst (at (now parents)) (at (now counts)) x c)) (now held) ⌝ }
+    ensures { λ r. ⌜ Lowered (length (now (parents .entry))) (λ c. bit (parentFirst (at (now (parents .entry))) (at (now (counts .entry))) x c)) (now (held .entry)) (now (held .exit)) ⌝ }
+{
+    let parent = x as u8;
+    let count = counts[x];
+    let mut c: usize = 1;
+    while c < parents.len() {
+        held[c] -= ((parents[c] == parent) & (count < counts[c])) as u8;
+        c += 1;
+    }
+}
+
+// The parent of x, where it comes after x, no longer waits for it.
+fn release_parent(parents: &[u8], counts: &[u8], held: &mut [u8; 64], x: usize)
+    requires { ⌜ Sized (now parents) (now counts) × (x < length (now parents)) × Lowerable (length (now parents)) (λ c. bit (childFirst (at (now parents)) (at (now counts)) x c)) (now held) ⌝ }
+    ensures { λ r. ⌜ Lowered (length (now (parents .entry))) (λ c. bit (childFirst (at (now (parents .entry))) (at (now (counts .entry))) x c)) (now (held .entry)) (now (held .exit)) ⌝ }
+{
+    let p = wide(parents[x]);
+    if (0 < x) & (p < parents.len()) {
+        held[p] -= (counts[x] <= counts[p]) as u8;
+    }
+}
+
 // Places x: it no longer holds others back, and from now on it holds back itself.
 fn release(parents: &[u8], counts: &[u8], held: &mut [u8; 64], x: usize)
     requires { ⌜ Sized (now parents) (now counts) × Releasing (length (now parents)) (at (now parents)) (at (now counts)) x (now held) ⌝ }
     ensures { λ r. ⌜ Released (length (now (parents .entry))) (at (now (parents .entry))) (at (now (counts .entry))) x (now (held .entry)) (now (held .exit)) ⌝ }
 {
-    let mut c: usize = 0;
-    while c < parents.len() {
-        held[c] -= precedes(parents, counts, x, c);
-        c += 1;
-    }
+    release_children(parents, counts, held, x);
+    release_parent(parents, counts, held, x);
     held[x] += 1;
 }
 
