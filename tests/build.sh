@@ -1,0 +1,21 @@
+# Sourced in the repository's root by what runs C programs: the static library and its header under
+# target/, proved and built where a source is newer than they are; run_static of bin/kit; and
+#   compile PROGRAM FILE..    makes target/PROGRAM of C files, options and the library
+# natively on x86-64, elsewhere with Debian's cross compiler.
+. bin/kit
+mkdir -p target
+library=target/staticlib/libcommission.a
+if [ ! -f "$library" ] || [ ! -f target/include/cartheron.h ] ||
+    [ -n "$(find crates crates.txt include bin/library -newer "$library" -type f | head -n 1)" ]; then
+    bin/library >target/library.log 2>&1 || {
+        tail -n 20 target/library.log
+        exit 1
+    }
+fi
+if [ "$(uname -m)" = x86_64 ]; then cc=cc; else cc=x86_64-linux-gnu-gcc; fi
+cflags="-std=c11 -O2 -Wall -Wextra -Werror"
+compile() {
+    program=target/$1
+    shift
+    $cc $cflags -static -pthread -Itarget/include -o "$program" "$@" "$library"
+}
