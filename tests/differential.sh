@@ -1,0 +1,10 @@
+#!/bin/sh
+# Builds tests/differential.c and runs it: the library against the plain C of tests/reference.
+#   tests/differential.sh [SEED [COUNT]]
+#   tests/differential.sh --case SEED NUMBER
+set -eu
+cd "$(dirname "$0")/.."
+. tests/build.sh
+compile differential -Itests tests/differential.c tests/generator_site.c tests/generator_text.c tests/generator_damage.c \
+    tests/reference/read.c tests/reference/plan.c tests/reference/plan_text.c tests/reference/brute.c
+run_static target/differential "$@"
