@@ -13,10 +13,10 @@ use Rattle.site.specs.declared.Site.{Site}
 use Rattle.site.specs.declared.Verdict.{Verdict}
 use Rattle.site.specs.declared.Verdict.the-variants.{Accepted, Refused}
 use Rattle.site.specs.declared.Reading.{Reading}
-use Rattle.site.specs.Check.{checked}
-use Rattle.site.specs.CheckLaws.{accepted-counts}
+use Rattle.records.specs.Check.{checked}
+use Rattle.records.specs.CheckLaws.{accepted-counts}
 use Rattle.site.specs.Reading.{accepted, readText}
-use Rattle.site.specs.SmallRefusals.{Small, text-refusal-small}
+use Rattle.records.specs.SmallRefusals.{Small, text-refusal-small}
 use Rattle.writer.specs.declared.Written.{Written}
 use Rattle.writer.specs.declared.Written.the-variants.{Length, Refused as RefusedWriting}
 use Rattle.writer.specs.Text.{textOf, fitting, written, roomAfter as writtenRoom}

@@ -6,7 +6,7 @@ use lib.ListN.{length}
 use Rattle.site.specs.declared.Site.{Site}
 use Rattle.site.specs.declared.Verdict.{Verdict}
 use Rattle.site.specs.declared.Verdict.the-variants.{Accepted, Refused}
-use Rattle.site.specs.Check.{checked}
+use Rattle.records.specs.Check.{checked}
 use Rattle.site.specs.Reading.{readText}
 use Rattle.writer.specs.declared.Written.{Written}
 use Rattle.writer.specs.declared.Written.the-variants.{Length, Refused as RefusedWriting}

@@ -1,7 +1,7 @@
 -- Document 01, "What the contracts have to nail": two results that one contract allows are equal, for each public function. A contract says
 -- "the result is d", or "the result is d and the room is e", with d and e made of the arguments alone, so each line here is an instance of one of two laws.
 -- A part of a text that is shown is a place in memory and its bytes; these are equal, and nothing else of it can be looked at. The functions that fill number slices of
--- the planner's own and leave some of it open (constraints::fill, constraints::relax, search::search) are the exceptions that docs/PROMISES.md explains.
+-- the planner's own and leave some of it open (constraints::settle, search::search) are the exceptions that docs/PROMISES.md explains.
 use mathlib.Core.Path.{_≡_}
 use mathlib.Core.List.{List, _++_}
 use Prim.Native.Nat.{ℕ, _+_, _*_, _<_, min}
@@ -15,14 +15,15 @@ use Rattle.model.specs.Counting.{at as numberIn, values}
 use Rattle.model.specs.Orders.{portion, interval, lengthAt, permitted}
 use Rattle.model.specs.Plans.{plan as planOf}
 use Rattle.model.specs.Trees.{depth, top as topOf}
+use Rattle.constraints.specs.Entries.{limitsOf}
 use Rattle.sequence.specs.Holding.{inOrder, Sequenced}
 use Rattle.sequence.specs.Running.{sequenced-room}
 use Rattle.site.specs.declared.Site.{Site}
 use Rattle.site.specs.declared.Tag.{Tag}
-use Rattle.site.specs.Records.{sameTag}
+use Rattle.site.specs.Records.{sameTag, wrongParent}
 use Rattle.site.specs.Table.{entryOf}
 use Rattle.site.specs.Reading.{readText}
-use Rattle.site.specs.Check.{checked}
+use Rattle.records.specs.Check.{checked}
 use Rattle.shown.specs.Shown.{lineStart, lineAt, Shown}
 use Rattle.writer.specs.Text.{textOf, fitting, written, roomAfter as writtenRoom}
 use Rattle.plantext.specs.PlanText.{planText, siteOf}
@@ -60,15 +61,17 @@ pub record EqualResults : Type 0 where
   -- the reader
   pub wide : (x : ℕ) (r₁ r₂ : ℕ) → (r₁ ≡ x) × (r₁ < 256) → (r₂ ≡ x) × (r₂ < 256) → r₁ ≡ r₂
   pub counted : (len : ℕ) → OneResult (min len 64)
+  pub «bad_parent» : (i parent : ℕ) → OneResult (wrongParent i parent)
   pub «read_line» : (k clusters flows : ℕ) (r : Row) → OneResult (entryOf k clusters flows r)
   pub read : (text : List ℕ) → OneResult (readText text)
   pub check : (s : Site) → OneResult (checked s)
   pub «same_tag» : (a b : Tag) → OneResult (sameTag a b)
   pub «line_start» : (text : List ℕ) (k : ℕ) → OneResult (lineStart text k)
   pub «line_at» : (text part₁ part₂ : RefT (List ℕ)) (k : ℕ) → Shown text part₁ k → Shown text part₂ k → (ptr part₁ ≡ ptr part₂) × (now part₁ ≡ now part₂)
-  -- the tree and the clusters in order of start
+  -- the tree, the flows' limits and the clusters in order of start
   pub depths : (parents : List ℕ) → OneResult (values (depth (numberIn parents)) 0 (length parents))
   pub top : (parents : List ℕ) (a b : ℕ) → OneResult (topOf (numberIn parents) a b)
+  pub «limit_flows» : (descents deadlines : List ℕ) (interval : ℕ) → OneResult (limitsOf descents deadlines interval)
   pub sequence : (size : ℕ) (parent N : ℕ → ℕ) (room room₁ room₂ : List ℕ) (r₁ r₂ : ℕ) → Sequenced size parent N room room₁ r₁ → Sequenced size parent N room room₂ r₂ → (r₁ ≡ r₂) × (room₁ ≡ room₂)
   -- the writer and the planner, with the room that they were lent
   pub plan-text-length : (s : Site) (placed : List ℕ) (r₁ r₂ : ℕ) → ((order : ℕ) → r₁ ≡ length (planText s order placed)) → ((order : ℕ) → r₂ ≡ length (planText s order placed)) → r₁ ≡ r₂
@@ -103,6 +106,7 @@ results-are-equal = record {
   order-permitted = λ number periods. equal-results (permitted number periods);
   wide = λ x r₁ r₂ p q. equal-results x r₁ r₂ (p .0) (q .0);
   counted = λ len. equal-results (min len 64);
+  «bad_parent» = λ i parent. equal-results (wrongParent i parent);
   «read_line» = λ k clusters flows r. equal-results (entryOf k clusters flows r);
   read = λ text. equal-results (readText text);
   check = λ s. equal-results (checked s);
@@ -112,6 +116,7 @@ results-are-equal = record {
       equal-results-in-room (ptr text .0, ptr text .1 + lineStart (now text) k) (lineAt (now text) k) (ptr part₁) (ptr part₂) (now part₁) (now part₂) (p .place, p .bytes) (q .place, q .bytes);
   depths = λ parents. equal-results (values (depth (numberIn parents)) 0 (length parents));
   top = λ parents a b. equal-results (topOf (numberIn parents) a b);
+  «limit_flows» = λ descents deadlines interval. equal-results (limitsOf descents deadlines interval);
   sequence = λ size parent N room room₁ room₂ r₁ r₂ p q. let placed = inOrder size parent N in
       equal-results-in-room (length placed) (placed ++ drop (length placed) room) r₁ r₂ room₁ room₂ (p .number, sequenced-room size parent N room room₁ r₁ p) (q .number, sequenced-room size parent N room room₂ r₂ q);
   plan-text-length = λ s placed r₁ r₂ p q. equal-results (length (planText s 0 placed)) r₁ r₂ (p 0) (q 0);

@@ -25,7 +25,7 @@ use Rattle.site.specs.declared.Site.{Site}
 use Rattle.site.specs.declared.Tag.{Tag}
 use Rattle.site.specs.declared.Verdict.the-variants.{Accepted}
 use Rattle.site.specs.Records.{noCluster, noFlow, noSite, absent, sameTag, printableTag, headerOutside, clusterOutside, flowOutside, wrongParent, tagTaken}
-use Rattle.site.specs.Check.{clusterRefusal, flowRefusal, firstBad, clustersVerdict, flowsVerdict, checked}
+use Rattle.records.specs.Check.{clusterRefusal, flowRefusal, firstBad, clustersVerdict, flowsVerdict, checked}
 use Rattle.plantext.specs.PlanText.{siteOf, planHeader, clusterLine, planLine, planLines, planText}
 use Rattle.planner.specs.declared.Planned.{Planned}
 use Rattle.planner.specs.declared.Planned.the-variants.{Plan, Refused}

@@ -16,8 +16,8 @@ use Rattle.site.specs.declared.Cluster.{Cluster}
 use Rattle.site.specs.declared.Site.{Site}
 use Rattle.site.specs.declared.Verdict.the-variants.{Accepted}
 use Rattle.site.specs.Records.{absent}
-use Rattle.site.specs.Check.{checked}
-use Rattle.site.specs.Checked.{checked-sound, counts-in, site-cluster-in}
+use Rattle.records.specs.Check.{checked}
+use Rattle.records.specs.Checked.{checked-sound, counts-in, site-cluster-in}
 use Rattle.plantext.specs.PlanText.{siteOf, planLine, planLines, planText}
 use Rattle.plantext.specs.PlanTextLaws.{cluster-length, text-length}
 use Rattle.planner.specs.SiteLaws.{clusters-counted}

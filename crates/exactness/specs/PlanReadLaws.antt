@@ -25,8 +25,8 @@ use Rattle.site.specs.declared.Cluster.{Cluster}
 use Rattle.site.specs.declared.Site.{Site}
 use Rattle.site.specs.declared.Verdict.the-variants.{Accepted}
 use Rattle.site.specs.Records.{absent}
-use Rattle.site.specs.Check.{checked}
-use Rattle.site.specs.Checked.{ClusterIn, checked-sound, counts-in, site-cluster-in}
+use Rattle.records.specs.Check.{checked}
+use Rattle.records.specs.Checked.{ClusterIn, checked-sound, counts-in, site-cluster-in}
 use Rattle.plantext.specs.PlanText.{siteOf, planHeader, clusterLine, planLine, planLines, planText}
 use Rattle.exactness.specs.EachOnce.{each-is-cluster, has-each-cluster, has-each-once}
 use Rattle.exactness.specs.PlanRead.{isLineOf, startAmong, orderIn, linesFor, startsIn}

@@ -21,7 +21,7 @@ use Rattle.model.specs.Sequences.{starts}
 use Rattle.model.specs.Sites as model
 use Rattle.site.specs.declared.Site.{Site}
 use Rattle.site.specs.declared.Verdict.the-variants.{Accepted}
-use Rattle.site.specs.Check.{checked}
+use Rattle.records.specs.Check.{checked}
 use Rattle.plantext.specs.PlanText.{siteOf, planText}
 use Rattle.planner.specs.declared.Planned as answers
 use Rattle.planner.specs.declared.Planned.the-variants.{Plan, Refused}
@@ -52,13 +52,13 @@ pub record ExactAnswer (s : Site) (room : List ℕ) : Type 0 where
   pub late-exactly : (answer s (length room) ≡ Refused 8 0) ↔ Late (siteOf s)
   pub misfit-exactly : (answer s (length room) ≡ Refused 7 0) ↔ Misfit (siteOf s)
 
+-- ---- the answer by the model's outcome, in a room that is long enough
+
 -- what comes back: a plan, refusal 8 or refusal 7
 pub data Answered (s : Site) (room : ℕ) : Type 0 where
   plans : (len order : ℕ) → answer s room ≡ Plan len order → Answered s room
   late : answer s room ≡ Refused 8 0 → Answered s room
   misfit : answer s room ≡ Refused 7 0 → Answered s room
-
--- ---- the answer by the model's outcome, in a room that is long enough
 
 abbrev roomyAnswer : Site → Outcome → answers.Planned
 roomyAnswer s (planned order sequence) = Plan (length (planText s order sequence)) order

@@ -10,7 +10,7 @@ use Rattle.model.specs.Plans.{Outcome, planned, noFit, noPlacing, plan}
 use Rattle.site.specs.declared.Site.{Site}
 use Rattle.site.specs.declared.Verdict.{Verdict}
 use Rattle.site.specs.declared.Verdict.the-variants.{Accepted, Refused}
-use Rattle.site.specs.Check.{checked}
+use Rattle.records.specs.Check.{checked}
 use Rattle.plantext.specs.PlanText.{siteOf, planText}
 use Rattle.planner.specs.declared.Planned.{Planned}
 use Rattle.planner.specs.declared.Planned.the-variants.{Plan, Refused as RefusedPlan}

@@ -23,8 +23,8 @@ use Rattle.site.specs.declared.Cluster.{Cluster}
 use Rattle.site.specs.declared.Flow.{Flow}
 use Rattle.site.specs.declared.Site.{Site}
 use Rattle.site.specs.declared.Verdict.the-variants.{Accepted}
-use Rattle.site.specs.Check.{checked}
-use Rattle.site.specs.Checked.{checked-sound, counts-in, cluster-tests, site-cluster-in, site-flow-in, clusters-reach, flows-reach}
+use Rattle.records.specs.Check.{checked}
+use Rattle.records.specs.Checked.{checked-sound, counts-in, cluster-tests, site-cluster-in, site-flow-in, clusters-reach, flows-reach}
 use Rattle.site.specs.Records.{absent, noFlow, wrongParent}
 use Rattle.planner.specs.Numbers.{periodsOf, descentAt, FlowsInTree}
 use Rattle.planner.specs.NumberLaws.{filled-is-map}

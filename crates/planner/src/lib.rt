@@ -16,7 +16,7 @@ ghost use lib.ListN.{length};
 ghost use Rattle.model.specs.Plans.{plan as planOf};
 ghost use Rattle.plantext.specs.PlanText.{siteOf};
 ghost use Rattle.site.specs.declared.Verdict.the-variants.{Accepted};
-ghost use Rattle.site.specs.Check.{checked};
+ghost use Rattle.records.specs.Check.{checked};
 ghost use Rattle.planner.specs.Answers.{outcomeAnswer, outcomeRoom, answer, roomAfter};
 ghost use Rattle.planner.specs.Schedules.{scheduledAs, scheduledCount};
 
@@ -112,7 +112,7 @@ pub fn plan_accepted(site: Site, room: &mut [u8]) -> Planned
 pub fn plan(site: Site, room: &mut [u8]) -> Planned
     ensures { λ r. ⌜ (r ≡ answer site (length (now (room .entry)))) × (now (room .exit) ≡ roomAfter site (now (room .entry))) ⌝ }
 {
-    let verdict = site::check(site);
+    let verdict = records::check(site);
     match verdict {
         Verdict::Refused { number, line } => Planned::Refused { number, line },
         Verdict::Accepted => plan_accepted(site, room),

@@ -16,7 +16,7 @@ use Rattle.site.specs.declared.Site.{Site}
 use Rattle.site.specs.declared.Tag.{Tag}
 use Rattle.site.specs.declared.Verdict.the-variants.{Accepted}
 use Rattle.site.specs.Records.{absent}
-use Rattle.site.specs.Check.{checked}
+use Rattle.records.specs.Check.{checked}
 
 -- a flow without its bytes
 abbrev pub flowOf : Flow → model.Flow

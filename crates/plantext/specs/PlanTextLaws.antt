@@ -22,7 +22,7 @@ use Rattle.site.specs.declared.Cluster.{Cluster}
 use Rattle.site.specs.declared.Site.{Site}
 use Rattle.site.specs.declared.Tag.{Tag}
 use Rattle.site.specs.Records.{absent}
-use Rattle.site.specs.Checked.{ClusterIn, checked-sound, counts-in, site-cluster-in}
+use Rattle.records.specs.Checked.{ClusterIn, checked-sound, counts-in, site-cluster-in}
 use Rattle.plantext.specs.PlanText.{siteOf, planHeader, clusterLine, planLine, planLines, planText, Fresh, Placed}
 
 pub header-length : (order n : ℕ) → length (lineOf (planHeader order n)) ≡ 9

@@ -6,7 +6,7 @@ use Prim.Native.Nat.{ℕ}
 use Rattle.site.specs.declared.Site.{Site}
 use Rattle.site.specs.declared.Verdict.the-variants.{Accepted}
 use Rattle.site.specs.Reading.{accepted, readText}
-use Rattle.site.specs.Check.{checked}
+use Rattle.records.specs.Check.{checked}
 use Rattle.writer.specs.Text.{textOf}
 use Rattle.roundtrip.specs.Kept.{kept}
 use Rattle.roundtrip.specs.ReadOfWrite.{read-of-write}

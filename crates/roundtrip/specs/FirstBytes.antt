@@ -23,7 +23,7 @@ use Rattle.site.specs.Table.{due, refusal}
 use Rattle.site.specs.Reading.{withHeader, withCluster, withFlow, refusalAt, entered, refused, readRows, readText}
 use Rattle.site.specs.ReadLaws.{rows-taken, rows-refused}
 use Rattle.roundtrip.specs.Due.{cluster-due, flow-due, none-due}
-use Rattle.site.specs.Checked.{header-in}
+use Rattle.records.specs.Checked.{header-in}
 use Rattle.roundtrip.specs.LinesAgain.{taken-well, taken-is-due, taken-length, taken-header}
 
 -- ---- a text that is cut off

@@ -18,7 +18,7 @@ use Rattle.site.specs.Records.{headerOutside, clusterOutside, flowOutside, wron
 use Rattle.site.specs.Lines.{size, tagAt, clusterOf, flowOf}
 use Rattle.site.specs.Table.{byKind, due, wrongKind, wrongLength, outside, misplaced, repeated, refusal}
 use Rattle.writer.specs.Text.{headerWidths, clusterWidths, flowWidths, headerBytes, clusterBytes, flowBytes}
-use Rattle.site.specs.Checked.{HeaderIn, ClusterIn, FlowIn}
+use Rattle.records.specs.Checked.{HeaderIn, ClusterIn, FlowIn}
 use Rattle.roundtrip.specs.Kept.{keptTag, keptCluster, kept-outside}
 
 -- the row of a line of bytes

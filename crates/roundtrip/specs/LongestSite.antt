@@ -16,7 +16,7 @@ use Rattle.site.specs.declared.Site.{Site}
 use Rattle.site.specs.Records.{absent, noFlow}
 use Rattle.site.specs.Reading.{accepted, readText}
 use Rattle.writer.specs.Text.{headerBytes, clusterBytes, flowBytes, textOf}
-use Rattle.site.specs.Checked.{checked-sound, counts-in, site-cluster-in, clusters-reach, flows-reach}
+use Rattle.records.specs.Checked.{checked-sound, counts-in, site-cluster-in, clusters-reach, flows-reach}
 use Rattle.roundtrip.specs.LinesBack.{header-size, cluster-size, flow-size}
 use Rattle.roundtrip.specs.WriteOfRead.{write-of-read}
 

@@ -21,11 +21,11 @@ use Rattle.site.specs.Records.{absent, noFlow, noSite}
 use Rattle.site.specs.Table.{due}
 use Rattle.site.specs.Reading.{withHeader, refusalAt, entered, accepted, readRows, readText}
 use Rattle.site.specs.ReadLaws.{rows-taken}
-use Rattle.site.specs.Check.{checked}
+use Rattle.records.specs.Check.{checked}
 use Rattle.writer.specs.Text.{headerBytes, clusterBytes, flowBytes, textOf}
 use Rattle.roundtrip.specs.Due.{cluster-due, flow-due, none-due}
-use Rattle.site.specs.Checked.{Sound, checked-sound, parent-byte, counts-in, cluster-tests, site-cluster-in, flow-test, site-flow-in}
-use Rattle.site.specs.Checked.{clusters-reach, flows-reach}
+use Rattle.records.specs.Checked.{Sound, checked-sound, parent-byte, counts-in, cluster-tests, site-cluster-in, flow-test, site-flow-in}
+use Rattle.records.specs.Checked.{clusters-reach, flows-reach}
 use Rattle.roundtrip.specs.Kept.{keptFirst, kept, cluster-kept, flow-kept, kept-taken}
 use Rattle.roundtrip.specs.LinesBack.{rowOf, header-fields, header-taken, cluster-back, cluster-taken, flow-back, flow-taken}
 

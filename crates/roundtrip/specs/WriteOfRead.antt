@@ -26,10 +26,10 @@ use Rattle.site.specs.Records.{absent, noFlow, noSite, sameTag, headerOutside, 
 use Rattle.site.specs.Lines.{tagAt, clusterOf, flowOf}
 use Rattle.site.specs.Table.{due}
 use Rattle.site.specs.Reading.{withHeader, withCluster, withFlow, refusalAt, entered, accepted, readRows, readText}
-use Rattle.site.specs.Check.{clusterRefusal, flowRefusal, checked}
+use Rattle.records.specs.Check.{clusterRefusal, flowRefusal, checked}
 use Rattle.writer.specs.Text.{headerBytes, clusterBytes, flowBytes, textOf}
 use Rattle.roundtrip.specs.Due.{cluster-due, flow-due, none-due}
-use Rattle.site.specs.Checked.{sound-checked, header-in, cluster-in}
+use Rattle.records.specs.Checked.{sound-checked, header-in, cluster-in}
 use Rattle.roundtrip.specs.LinesAgain.{joined, joined-none, joined-rows, header-again, cluster-again, flow-again, line-again}
 use Rattle.roundtrip.specs.LinesAgain.{taken-is-due, taken-length, taken-header, taken-cluster, taken-flow}
 

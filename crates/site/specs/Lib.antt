@@ -7,7 +7,3 @@ pub mod TableLaws
 pub mod Reading
 pub mod ReadLaws
 pub mod LeftLaws
-pub mod Check
-pub mod CheckLaws
-pub mod Checked
-pub mod SmallRefusals

@@ -1,11 +1,10 @@
-// Sites (document 01, "Site text", "Refusal numbers"): the records, the line reader, the reader of
-// a whole text, and the check of records.
-mod checks;
+// Sites (document 01, "Site text", "Refusal numbers"): the records, the line reader and the
+// reader of a whole text.
 mod line;
 mod reader;
 mod tags;
 
-pub use checks::check;
+pub use line::bad_parent;
 pub use line::read_line;
 pub use reader::read;
 pub use tags::counted;

@@ -6,13 +6,13 @@ use crate::MOST_FLOWS;
 use crate::MOST_ORDER;
 use crate::MOST_TAG;
 use crate::MOST_TIME;
-use crate::checks::bad_parent;
 use crate::wide;
 ghost use mathlib.Core.Path.{_≡_};
 ghost use Prim.Native.Nat.{_+_, _*_, _≤_, _<_};
 ghost use lib.ListN.{length};
 ghost use Rattle.hexline.specs.Digits.{numberAt};
 ghost use Rattle.site.specs.Lines.{printableLine};
+ghost use Rattle.site.specs.Records.{wrongParent};
 ghost use Rattle.site.specs.Table.{due, fieldsOf, entryOf};
 
 // The kind due at line k after a header of so many clusters and flows: 1 header, 2 cluster, 3 flow,
@@ -55,6 +55,17 @@ fn time_at(line: &[u8], k: usize) -> u32
     ensures { λ r. ⌜ r ≡ numberAt (now (line .entry)) k 4 ⌝ }
 {
     hexline::number_at(line, k, 4) as u32
+}
+
+// Whether the parent of cluster i is wrong: the root's is 255, another's is a lower number.
+pub fn bad_parent(i: usize, parent: u8) -> bool
+    ensures { λ r. ⌜ r ≡ wrongParent i parent ⌝ }
+{
+    if i == 0 {
+        parent != 255
+    } else {
+        i <= wide(parent)
+    }
 }
 
 fn header_line(line: &[u8], k: usize) -> Entry

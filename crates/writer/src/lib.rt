@@ -9,7 +9,7 @@ ghost use lib.ListN.{length, take};
 ghost use Rattle.hexline.specs.Digits.{lineOf};
 ghost use Rattle.hexline.specs.Listing.{linesOf};
 ghost use Rattle.hexline.specs.Room.{put, handed};
-ghost use Rattle.site.specs.Check.{checked};
+ghost use Rattle.records.specs.Check.{checked};
 ghost use Rattle.writer.specs.Text.{headerBytes, clusterBytes, flowBytes, textOf, fitting, written, roomAfter};
 
 // What the writer answers: how many bytes of the room the text fills, or the refusal.
@@ -143,7 +143,7 @@ pub fn put_site(room: &mut [u8], site: Site) -> Written
 pub fn write(site: Site, room: &mut [u8]) -> Written
     ensures { λ r. ⌜ (r ≡ written (checked site) (textOf site) (length (now (room .entry)))) × (now (room .exit) ≡ roomAfter (checked site) (textOf site) (now (room .entry))) ⌝ }
 {
-    let verdict = site::check(site);
+    let verdict = records::check(site);
     match verdict {
         Verdict::Refused { number, line } => Written::Refused { number, line },
         Verdict::Accepted => put_site(room, site),

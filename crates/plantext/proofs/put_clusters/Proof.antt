@@ -12,7 +12,7 @@ use Rattle.model.specs.OrderLaws.{order-has-length, symbols-bounded}
 use Rattle.model.specs.Sites.{portionOf}
 use Rattle.site.specs.declared.Cluster.{Cluster}
 use Rattle.site.specs.declared.Site.{Site}
-use Rattle.site.specs.Checked.{ClusterIn}
+use Rattle.records.specs.Checked.{ClusterIn}
 use Rattle.site.specs.Records.{absent}
 use Rattle.plantext.specs.PlanText.{siteOf, clusterLine, planLine}
 use Rattle.plantext.specs.PlanTextLaws.{cluster-in-range, index-in-range, lines-all, next-sum, line-here}

@@ -1,6 +1,6 @@
 -- `writer::write` meets its contract: a refused site is answered as the check answers it, and an accepted one has counts in range and is put.
 use mathlib.Core.Path.{sym, _∙_}
-use Rattle.site.specs.CheckLaws.{accepted-counts}
+use Rattle.records.specs.CheckLaws.{accepted-counts}
 use Rattle.writer.specs.Text.{written, roomAfter}
 use borrow.Author.Needs.{needs}
 use Rattle.writer.proofs.write.Statement.{statement}

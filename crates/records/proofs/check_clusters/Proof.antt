@@ -1,4 +1,4 @@
--- `site::checks::check_clusters` meets its contract. The invariant: the first bad cluster from `i` on decides as the first of all does. In the inner
+-- `records::check_clusters` meets its contract. The invariant: the first bad cluster from `i` on decides as the first of all does. In the inner
 -- loop no cluster before `j` has cluster i's tag.
 use mathlib.Core.Path.{_≡_, sym, ap, _∙_}
 use mathlib.Core.Bool.{true, not}
@@ -7,13 +7,13 @@ use native.Mathlib.Nat.{sub-zero}
 use native.Mathlib.Omega.{arith}
 use lib.ListN.{getD}
 use Rattle.hexline.specs.Loops.{every, every-none, every-more}
 use Rattle.site.specs.Records.{absent, sameTag}
 use Rattle.site.specs.TagLaws.{tag-is-taken, tag-not-taken}
-use Rattle.site.specs.Check.{clusterRefusal, firstBad, clustersVerdict}
-use Rattle.site.specs.CheckLaws.{bad-here, bad-later, bad-none, refused-by-4, refused-by-5, refused-by-6, refused-by-none}
+use Rattle.records.specs.Check.{clusterRefusal, firstBad, clustersVerdict}
+use Rattle.records.specs.CheckLaws.{bad-here, bad-later, bad-none, refused-by-4, refused-by-5, refused-by-6, refused-by-none}
 use borrow.Author.Needs.{needs}
-use Rattle.site.proofs.checks.check_clusters.Statement.{statement}
-use Rattle.site.proofs.checks.check_clusters.Tie as tie
+use Rattle.records.proofs.check_clusters.Statement.{statement}
+use Rattle.records.proofs.check_clusters.Tie as tie
 
 abbrev Inv-loop2 : tie.InvT-loop2
 Inv-loop2 n clusters i cluster j₀ j = (j ≤ i) × (every j (λ k. not (sameTag (getD clusters k absent .tag) (cluster .tag))) ≡ true)

@@ -1,4 +1,4 @@
--- `site::checks::printable_tag` meets its contract. The invariant: every byte before `i` is printable. A byte that is not ends the loop, and the law of
+-- `records::printable_tag` meets its contract. The invariant: every byte before `i` is printable. A byte that is not ends the loop, and the law of
 -- `every` then says that not all are.
 use mathlib.Core.Path.{_≡_, sym}
 use mathlib.Core.Bool.{true}
@@ -8,10 +8,10 @@ use lib.ListN.{getD}
 use Rattle.hexline.specs.Loops.{every, every-none, every-more, every-fails}
 use Rattle.hexline.specs.Digits.{between}
 use Rattle.hexline.specs.DigitLaws.{between-low, between-high, between-in}
 use Rattle.site.specs.Records.{printableTag}
 use borrow.Author.Needs.{needs}
-use Rattle.site.proofs.checks.printable_tag.Statement.{statement}
-use Rattle.site.proofs.checks.printable_tag.Tie as tie
+use Rattle.records.proofs.printable_tag.Statement.{statement}
+use Rattle.records.proofs.printable_tag.Tie as tie
 
 abbrev Inv-loop : tie.InvT-loop
 Inv-loop n bytes i₀ i = (i ≤ n) × (every i (λ j. between 33 126 (getD bytes j 0)) ≡ true)

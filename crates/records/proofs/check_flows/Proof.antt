@@ -1,15 +1,15 @@
--- `site::checks::check_flows` meets its contract. The invariant: the first bad flow from `j` on decides as the first of all does.
+-- `records::check_flows` meets its contract. The invariant: the first bad flow from `j` on decides as the first of all does.
 use mathlib.Core.Path.{_≡_, sym, _∙_}
 use Prim.Native.Nat.{_+_, _≤_, _-_}
 use native.Mathlib.Nat.{sub-zero}
 use native.Mathlib.Omega.{arith}
 use lib.ListN.{getD}
 use Rattle.site.specs.Records.{noFlow}
-use Rattle.site.specs.Check.{flowRefusal, firstBad, flowsVerdict}
-use Rattle.site.specs.CheckLaws.{bad-here, bad-later, bad-none}
+use Rattle.records.specs.Check.{flowRefusal, firstBad, flowsVerdict}
+use Rattle.records.specs.CheckLaws.{bad-here, bad-later, bad-none}
 use borrow.Author.Needs.{needs}
-use Rattle.site.proofs.checks.check_flows.Statement.{statement}
-use Rattle.site.proofs.checks.check_flows.Tie as tie
+use Rattle.records.proofs.check_flows.Statement.{statement}
+use Rattle.records.proofs.check_flows.Tie as tie
 
 abbrev Inv-loop : tie.InvT-loop
 Inv-loop f clusters flows first j₀ j = (firstBad (λ i. flowRefusal clusters (getD flows i noFlow)) (2 + clusters) (f - j) j ≡ flowsVerdict clusters flows f) × (j ≤ f)

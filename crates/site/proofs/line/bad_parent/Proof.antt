@@ -1,9 +1,9 @@
--- `site::checks::bad_parent` meets its contract: the test of the root's number chooses as the definition does.
+-- `site::line::bad_parent` meets its contract: the test of the root's number chooses as the definition does.
 use borrow.Author.Tests.{eq-eqb, ne-eqb}
 use Rattle.site.specs.Records.{wrongParent}
 use borrow.Author.Needs.{needs}
-use Rattle.site.proofs.checks.bad_parent.Statement.{statement}
-use Rattle.site.proofs.checks.bad_parent.Tie as tie
+use Rattle.site.proofs.line.bad_parent.Statement.{statement}
+use Rattle.site.proofs.line.bad_parent.Tie as tie
 
 wide-requires : tie.Need-wide-requires
 wide-requires c κs = search needs

@@ -1,10 +1,10 @@
--- `site::checks::outside_cluster` meets its contract: the tests stand in the definition's order, and each return computes by those on the way.
+-- `records::outside_cluster` meets its contract: the tests stand in the definition's order, and each return computes by those on the way.
 use mathlib.Core.Bool.{or-false}
 use borrow.Author.Tests.{le-leb, lt-leb, lt-ltb, le-ltb}
 use Rattle.site.specs.Records.{clusterOutside}
 use borrow.Author.Needs.{needs}
-use Rattle.site.proofs.checks.outside_cluster.Statement.{statement}
-use Rattle.site.proofs.checks.outside_cluster.Tie as tie
+use Rattle.records.proofs.outside_cluster.Statement.{statement}
+use Rattle.records.proofs.outside_cluster.Tie as tie
 
 returns : tie.Need-returns
 unfolding clusterOutside

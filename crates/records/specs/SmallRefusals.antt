@@ -13,14 +13,14 @@ use Rattle.hexline.specs.Digits.{between, byteAt}
 use Rattle.hexline.specs.DigitLaws.{between-true}
 use Rattle.hexline.specs.Lines.{Row, rows}
 use Rattle.hexline.specs.LineLaws.{none-of}
 use Rattle.site.specs.declared.Site.{Site}
 use Rattle.site.specs.declared.Verdict.{Verdict}
 use Rattle.site.specs.declared.Verdict.the-variants.{Accepted, Refused}
 use Rattle.site.specs.Records.{noSite, noFlow, absent, headerOutside, clusterOutside, flowOutside, wrongParent, tagTaken}
 use Rattle.site.specs.Table.{lowest, due, wrongKind, outside, repeated, lineTests, refusal}
 use Rattle.site.specs.TableLaws.{lowest-none, header, cluster, flow, beyond, place}
 use Rattle.site.specs.Reading.{withHeader, withCluster, withFlow, refusalAt, entered, readRows, readText}
-use Rattle.site.specs.Check.{clusterRefusal, flowRefusal, firstBad, orElse, clustersVerdict, flowsVerdict, checked}
+use Rattle.records.specs.Check.{clusterRefusal, flowRefusal, firstBad, orElse, clustersVerdict, flowsVerdict, checked}
 
 -- a refusal of a text or of records
 abbrev pub Small : Verdict → Type 0

@@ -14,15 +14,15 @@ use Rattle.hexline.specs.Loops.{decide, every-at}
 use Rattle.hexline.specs.Digits.{between}
 use Rattle.hexline.specs.DigitLaws.{between-true}
 use Rattle.hexline.specs.LineLaws.{none-of}
 use Rattle.site.specs.declared.Tag.{Tag}
 use Rattle.site.specs.declared.Cluster.{Cluster}
 use Rattle.site.specs.declared.Flow.{Flow}
 use Rattle.site.specs.declared.Site.{Site}
 use Rattle.site.specs.declared.Verdict.{Verdict}
 use Rattle.site.specs.declared.Verdict.the-variants.{Accepted, Refused}
 use Rattle.site.specs.Records.{absent, noFlow, printableTag, headerOutside, clusterOutside, flowOutside, wrongParent, tagTaken}
 use Rattle.site.specs.TableLaws.{lowest-none}
-use Rattle.site.specs.Check.{clusterRefusal, flowRefusal, firstBad, clustersVerdict, flowsVerdict, orElse, checked}
+use Rattle.records.specs.Check.{clusterRefusal, flowRefusal, firstBad, clustersVerdict, flowsVerdict, orElse, checked}
 
 -- ---- the check, record by record
 

@@ -12,11 +12,11 @@ use Rattle.hexline.specs.Loops.{decide}
 use Rattle.hexline.specs.Digits.{between}
 use Rattle.hexline.specs.LineLaws.{none-of}
 use Rattle.hexline.specs.DigitLaws.{between-high, between-in, between-true}
 use Rattle.site.specs.declared.Cluster.{Cluster}
 use Rattle.site.specs.declared.Site.{Site}
 use Rattle.site.specs.declared.Verdict.the-variants.{Accepted, Refused}
 use Rattle.site.specs.Records.{absent, headerOutside, clusterOutside, wrongParent, tagTaken}
-use Rattle.site.specs.Check.{clusterRefusal, firstBad, clustersVerdict, flowsVerdict, orElse, checked}
+use Rattle.records.specs.Check.{clusterRefusal, firstBad, clustersVerdict, flowsVerdict, orElse, checked}
 
 -- from lo on, a number is outside its range exactly if it is above
 pub outside-above : (lo hi b : ℕ) → lo ≤ b → not (between lo hi b) ≡ ltb hi b

@@ -1,10 +1,10 @@
--- `site::checks::outside_flow` meets its contract: the tests stand in the definition's order, and each return computes by those on the way.
+-- `records::outside_flow` meets its contract: the tests stand in the definition's order, and each return computes by those on the way.
 use mathlib.Core.Bool.{or-false}
 use borrow.Author.Tests.{le-leb, lt-leb}
 use Rattle.site.specs.Records.{flowOutside}
-use Rattle.site.specs.CheckLaws.{outside-above}
-use Rattle.site.proofs.checks.outside_flow.Statement.{statement}
-use Rattle.site.proofs.checks.outside_flow.Tie as tie
+use Rattle.records.specs.CheckLaws.{outside-above}
+use Rattle.records.proofs.outside_flow.Statement.{statement}
+use Rattle.records.proofs.outside_flow.Tie as tie
 
 returns : tie.Need-returns
 unfolding flowOutside

@@ -1,12 +1,12 @@
--- `site::checks::check` meets its contract: counts out of range refuse the header, and within their ranges the clusters decide, then the flows.
+-- `records::check` meets its contract: counts out of range refuse the header, and within their ranges the clusters decide, then the flows.
 use mathlib.Core.Path.{_≡_, sym, _∙_}
 use borrow.Author.Tests.{le-leb, lt-leb, lt-ltb}
 use Rattle.site.specs.Records.{headerOutside}
-use Rattle.site.specs.Check.{clustersVerdict, flowsVerdict, orElse, checked}
-use Rattle.site.specs.CheckLaws.{records-decide}
+use Rattle.records.specs.Check.{clustersVerdict, flowsVerdict, orElse, checked}
+use Rattle.records.specs.CheckLaws.{records-decide}
 use borrow.Author.Needs.{needs}
-use Rattle.site.proofs.checks.check.Statement.{statement}
-use Rattle.site.proofs.checks.check.Tie as tie
+use Rattle.records.proofs.check.Statement.{statement}
+use Rattle.records.proofs.check.Tie as tie
 
 clusters-decide : (c : tie.After-check-clusters) → let site = c .before .before .before .before .before .before .args .site in
     checked site ≡ orElse (c .check-clusters .result) (flowsVerdict (site .«cluster_count») (site .flows) (site .«flow_count»))

@@ -1,20 +1,22 @@
-// The check of records handed in, which may be anything: the refusal that their text would meet.
-use crate::Cluster;
-use crate::Flow;
-use crate::MOST_CLUSTERS;
-use crate::MOST_FLOWS;
-use crate::MOST_ORDER;
-use crate::MOST_TAG;
-use crate::MOST_TIME;
-use crate::Site;
-use crate::Tag;
-use crate::Verdict;
-use crate::tags::same_tag;
-use crate::wide;
+// The check of records that a caller hands in (document 01, "Refusal numbers": the writer's and the
+// planner's 4, 5 and 6).
+use site::Cluster;
+use site::Flow;
+use site::MOST_CLUSTERS;
+use site::MOST_FLOWS;
+use site::MOST_ORDER;
+use site::MOST_TAG;
+use site::MOST_TIME;
+use site::Site;
+use site::Tag;
+use site::Verdict;
+use site::bad_parent;
+use site::same_tag;
+use site::wide;
 ghost use mathlib.Core.Path.{_≡_};
 ghost use Prim.Native.Nat.{_≤_};
-ghost use Rattle.site.specs.Records.{printableTag, clusterOutside, flowOutside, wrongParent};
-ghost use Rattle.site.specs.Check.{clustersVerdict, flowsVerdict, checked};
+ghost use Rattle.site.specs.Records.{printableTag, clusterOutside, flowOutside};
+ghost use Rattle.records.specs.Check.{clustersVerdict, flowsVerdict, checked};
 
 // Whether the bytes of a tag up to its length are all from 21 to 7E.
 fn printable_tag(tag: Tag) -> bool
@@ -73,17 +75,6 @@ fn outside_flow(f: Flow, clusters: u8) -> bool
         return true;
     }
     f.deadline > MOST_TIME
-}
-
-// Whether the parent of cluster i is wrong: the root's is 255, another's is a lower number.
-pub fn bad_parent(i: usize, parent: u8) -> bool
-    ensures { λ r. ⌜ r ≡ wrongParent i parent ⌝ }
-{
-    if i == 0 {
-        parent != 255
-    } else {
-        i <= wide(parent)
-    }
 }
 
 // The first of the first n clusters that is refused by 4, 5 or 6.

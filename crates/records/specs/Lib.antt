@@ -1,0 +1,4 @@
+pub mod Check
+pub mod CheckLaws
+pub mod Checked
+pub mod SmallRefusals
