@@ -1,2 +1,4 @@
+pub mod Deciding
+pub mod Monotone
 pub mod Posed
 pub mod PosedLaws

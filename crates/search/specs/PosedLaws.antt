@@ -1,33 +1,21 @@
--- The list of constraints that the slices of a site give is the site's, and its clusters are there. And the search one order on.
+-- The list of constraints that the slices of a site give is the site's, and its clusters are there.
 use mathlib.Core.Path.{_≡_, sym, ap, _∙_}
-use mathlib.Core.Bool.{Bool, true, false, _&&_}
 use mathlib.Core.List.{List, [], _∷_, _++_, map, append-nil}
-use mathlib.Core.Option.{none, some}
-use Prim.Native.Nat.{ℕ, zero, suc, _+_, _*_, _-_, _≤_, _<_}
-use native.Mathlib.Nat.{mul-le-mul-left}
+use Prim.Native.Nat.{ℕ, zero, suc, _+_, _≤_, _<_}
 use native.Mathlib.Omega.{arith}
-use lib.Dec.{leb}
 use lib.ListN.{length, take, drop, length-map, drop-of-length-le}
 use lib.Seq.{take-length}
-use lib.Pow.{pow-mono}
 use Rattle.model.specs.Constraints.{Constraint, descent, constraints}
 use Rattle.model.specs.ConstraintLaws.{Within, constraints-within}
-use Rattle.model.specs.Counting.{Each, at}
+use Rattle.model.specs.Counting.{Each}
 use Rattle.model.specs.CountingLaws.{each-map}
-use Rattle.model.specs.Orders.{base, symbols, interval, permitted}
-use Rattle.model.specs.Plans.{fits, candidate, planned, noFit, noPlacing, search, plan}
-use Rattle.model.specs.PlanLaws.{search-passes, search-goes-on, search-ends}
+use Rattle.model.specs.Orders.{interval}
 use Rattle.model.specs.Relaxing.{settle, depths, solve}
 use Rattle.model.specs.RelaxingLaws.{depths-length}
-use Rattle.model.specs.Sequences.{sequence}
-use Rattle.model.specs.Sites.{Flow, Site, size, parent, Sound}
+use Rattle.model.specs.Sites.{Flow, Site, size, Sound}
 use Rattle.constraints.specs.Biases.{biased, settle-biased, descent-shallow, constraints-covered, site-entries-say}
 use Rattle.constraints.specs.Entries.{meaning, siteEntries, limitsOf, Shallow}
-use Rattle.search.specs.Posed.{Posed, Limited}
-
-pub interval-positive : (o : ℕ) → 960 ≤ interval o
-unfolding symbols
-interval-positive o = mul-le-mul-left base (pow-mono {i = 0} {j = o} (omega arith))
+use Rattle.search.specs.Posed.{Posed}
 
 module _ (s : Site) (w : Sound s) (few : size s ≤ 64) where
   bias-settles : (order : ℕ) → settle (size s) (map biased (constraints s order)) (depths s) ≡ solve s order
@@ -84,34 +72,3 @@ module _ (s : Site) (ps ss ts ds es ls : List ℕ) (w : Posed s ps ss ts ds es l
 -- as many distances as there are depths, copied over
 pub copied : (depths counts : List ℕ) → length counts ≡ length depths → take (length depths) depths ++ drop (length depths) counts ≡ depths
 copied depths counts e = rw (take-length depths, drop-of-length-le counts {i = length depths} (omega arith)) (append-nil depths)
-
--- the search at an order that is next, the larger ones being tried: what is left decides
-module _ (s : Site) (shortest total left order : ℕ) (fitted : Bool) (l : Limited s shortest total) (more : 0 < left) (e : order ≡ left - 1) (so-far : plan s ≡ search left s fitted) where
-  abbrev Tested : Bool → Type 0
-  Tested b = b ≡ (permitted order (shortest ∷ []) && leb total (interval order))
-
-  tested : {b : Bool} → Tested b → candidate s (left - 1) ≡ b
-  unfolding candidate fits
-  tested t = sym (t ∙ rw (l .permits order, l .sums, e))
-
-  one-on : plan s ≡ search (suc (left - 1)) s fitted
-  one-on = so-far ∙ ap (λ (k : ℕ). search k s fitted) (omega arith)
-
-  pub order-passed : Tested false → plan s ≡ search (left - 1) s fitted
-  order-passed t = one-on ∙ search-passes (left - 1) s fitted (tested t)
-
-  pub order-unsolved : Tested true → solve s order ≡ none → plan s ≡ search (left - 1) s true
-  order-unsolved t r = one-on ∙ search-goes-on (left - 1) s fitted (tested t) (ap (solve s) (sym e) ∙ r)
-
-  pub order-solved : {d : List ℕ} → Tested true → solve s order ≡ some d → plan s ≡ planned (left - 1) (sequence s (at d))
-  order-solved t r = one-on ∙ search-ends (left - 1) s fitted (tested t) (ap (solve s) (sym e) ∙ r)
-
--- where no order is left
-module _ (s : Site) (left : ℕ) (fitted : Bool) (none-left : left ≤ 0) where
-  pub no-order-solved : fitted ≡ true → search left s fitted ≡ noPlacing
-  unfolding search
-  no-order-solved f = let z : left ≡ 0 = omega arith in rw (z, f)
-
-  pub no-order-fitted : fitted ≡ false → search left s fitted ≡ noFit
-  unfolding search
-  no-order-fitted f = let z : left ≡ 0 = omega arith in rw (z, f)
