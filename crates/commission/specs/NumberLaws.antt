@@ -16,7 +16,7 @@ use Rattle.site.specs.declared.Reading.{Reading}
 use Rattle.records.specs.Check.{checked}
 use Rattle.records.specs.CheckLaws.{accepted-counts}
 use Rattle.site.specs.Reading.{accepted, readText}
-use Rattle.records.specs.SmallRefusals.{Small, text-refusal-small}
+use Rattle.commission.specs.SmallRefusals.{Small, text-refusal-small}
 use Rattle.writer.specs.declared.Written.{Written}
 use Rattle.writer.specs.declared.Written.the-variants.{Length, Refused as RefusedWriting}
 use Rattle.writer.specs.Text.{textOf, fitting, written, roomAfter as writtenRoom}

@@ -8,7 +8,6 @@ use native.Mathlib.Omega.{arith}
 use lib.Dec.{leb}
 use lib.ListN.{set}
 use borrow.Author.Tests.{leb-true, leb-false}
-use Rattle.model.specs.ConstraintLaws.{Within}
 use Rattle.model.specs.Constraints.{Constraint, risesOnce, neverFalls, treeConstraints, descent, flowConstraint, flowConstraints, constraints}
 use Rattle.model.specs.Counting.{Each, at}
 use Rattle.model.specs.CountingLaws.{passes-or-fails, each-imply, each-map, each-append}
@@ -72,9 +71,6 @@ settle-biased (suc rounds) ks d h = elim (passes-or-fails (allOkay ks d)) [
   | inl e ↦ settle-ends rounds (map biased ks) d (all-okay-biased ks d h ∙ e) ∙ sym (settle-ends rounds ks d e)
   | inr e ↦ rw (all-okay-biased ks d h, e, round-biased ks d h, settle) (same-after (round ks d) (λ r. settle-biased rounds ks r h))
 ]
-
-pub within-biased : (n : ℕ) (ks : List Constraint) → Each (Within n) ks → Each (Within n) (map biased ks)
-within-biased n ks h = each-map biased (Within n) ks h
 
 -- ## The bias covers the debits of a site
 

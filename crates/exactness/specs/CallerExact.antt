@@ -18,7 +18,7 @@ use Rattle.site.specs.declared.Verdict.{Verdict}
 use Rattle.site.specs.declared.Verdict.the-variants.{Accepted, Refused}
 use Rattle.site.specs.Records.{noSite}
 use Rattle.site.specs.Reading.{refusalAt, entered, accepted, readRows, readText}
-use Rattle.records.specs.SmallRefusals.{Small, text-refusal-small}
+use Rattle.commission.specs.SmallRefusals.{Small, text-refusal-small}
 use Rattle.site.specs.Table.{due}
 use Rattle.plantext.specs.PlanText.{siteOf}
 use Rattle.planner.specs.declared.Planned.{Planned}

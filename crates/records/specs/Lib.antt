@@ -1,4 +1,3 @@
 pub mod Check
 pub mod CheckLaws
 pub mod Checked
-pub mod SmallRefusals

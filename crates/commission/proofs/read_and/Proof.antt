@@ -1,7 +1,6 @@
 -- `commission::read_and` meets its contract: by the reader's verdict, its refusal as a number, or the planner's or the writer's answer as one. A
 -- line of a refusal is at most 194, a plan text at most 9,673 bytes and the text of an accepted site at most 11,721, so each number fits.
-use mathlib.Core.Path.{_≡_, sym, ap, _∙_, subst}
-use Prim.Native.Nat.{_≤_}
+use mathlib.Core.Path.{sym, ap, _∙_, subst}
 use native.Mathlib.Omega.{arith}
 use Rattle.commission.specs.Numbers.{plannedNumber, writtenNumber}
 use Rattle.commission.specs.NumberLaws.{SmallPlan, SmallWriting, refused-line-small, plan-refused, records-checked, counts-taken, plan-taken, plan-small, rewrite-refused, rewrite-taken, written-small, either-way}

@@ -9,7 +9,6 @@ use lib.Seq.{length-take-le, take-append-seam}
 use Rattle.model.specs.Orders.{interval}
 use Rattle.model.specs.OrderLaws.{order-has-length}
 use Rattle.model.specs.Sites.{size}
-use Rattle.constraints.specs.Entries.{limitsOf}
 use Rattle.search.specs.Monotone.{interval-positive}
 use Rattle.search.specs.PosedLaws.{clusters-number, levels-number, flows-fit, sinks-number, descents-number, deadlines-number, descents-shallow, list-within, list-settles, copied}
 use borrow.Author.Needs.{needs}

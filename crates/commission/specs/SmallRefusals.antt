@@ -1,12 +1,12 @@
--- Refusals are small numbers: 1 to 6, at a line of at most 194, which is the line after the last of the largest site.
+-- The reader's refusals are small numbers: 1 to 6, at a line of at most 194, which is the line after the last of the largest site.
 use mathlib.Core.Path.{_≡_}
 use mathlib.Core.Bool.{Bool, true, false, not}
 use mathlib.Core.List.{List, [], _∷_, _++_}
 use mathlib.Core.Logic.{inl, inr}
-use Prim.Native.Nat.{ℕ, zero, suc, _+_, _-_, _≤_}
+use Prim.Native.Nat.{ℕ, suc, _+_, _≤_}
 use native.Mathlib.Omega.{arith}
 use lib.Dec.{ltb, eqb}
-use lib.ListN.{length, getD}
+use lib.ListN.{length}
 use borrow.Author.Tests.{eqb-true, eqb-false, ltb-false, not-false}
 use Rattle.hexline.specs.Loops.{decide}
 use Rattle.hexline.specs.Digits.{between, byteAt}
@@ -16,13 +16,11 @@ use Rattle.hexline.specs.LineLaws.{none-of}
 use Rattle.site.specs.declared.Site.{Site}
 use Rattle.site.specs.declared.Verdict.{Verdict}
 use Rattle.site.specs.declared.Verdict.the-variants.{Accepted, Refused}
-use Rattle.site.specs.Records.{noSite, noFlow, absent, headerOutside, clusterOutside, flowOutside, wrongParent, tagTaken}
+use Rattle.site.specs.Records.{noSite, headerOutside}
 use Rattle.site.specs.Table.{lowest, due, wrongKind, outside, repeated, lineTests, refusal}
 use Rattle.site.specs.TableLaws.{lowest-none, header, cluster, flow, beyond, place}
 use Rattle.site.specs.Reading.{withHeader, withCluster, withFlow, refusalAt, entered, readRows, readText}
-use Rattle.records.specs.Check.{clusterRefusal, flowRefusal, firstBad, orElse, clustersVerdict, flowsVerdict, checked}
 
--- a refusal of a text or of records
 abbrev pub Small : Verdict → Type 0
 Small Accepted = Unit {0}
 Small (Refused number line) = (number ≤ 6) × (line ≤ 194)
@@ -31,8 +29,6 @@ lowest-small : (m : ℕ) (ts : List Bool) → lowest (suc m) ts ≤ m + length t
 lowest-small m [] = omega arith
 lowest-small m (true ∷ ts) = omega arith
 lowest-small m (false ∷ ts) = omega (arith, lowest-small (suc m) ts)
-
--- ---- texts
 
 -- line k is the first, or the line before it was due
 record Reached (k : ℕ) (s : Site) : Type 0 where
@@ -79,33 +75,3 @@ rows-small (r ∷ rs) k s h = elim (decide (eqb (refusalAt k s r) 0)) [
 pub text-refusal-small : (t : List ℕ) → Small (readText t .verdict)
 unfolding readText
 text-refusal-small t = rows-small (rows t) 1 noSite reached-start
-
--- ---- records
-
-bad-small : (f : ℕ → ℕ) (first m i : ℕ) → ((j : ℕ) → f j ≤ 6) → first + i + m ≤ 195 → Small (firstBad f first m i)
-unfolding firstBad
-bad-small f first zero i h b = tt
-bad-small f first (suc m) i h b = elim (decide (eqb (f i) 0)) [
-  | inl e ↦ rw e (bad-small f first m (i + 1) h (omega arith))
-  | inr e ↦ rw e (h i, omega arith)
-]
-
-else-small : (a b : Verdict) → Small a → Small b → Small (orElse a b)
-else-small Accepted b p q = q
-else-small (Refused m k) b p q = p
-
-pub record-refusal-small : (s : Site) → Small (checked s)
-unfolding checked clustersVerdict flowsVerdict clusterRefusal flowRefusal headerOutside
-record-refusal-small s =
-    let n : ℕ = s .«cluster_count» in
-    let f : ℕ = s .«flow_count» in
-    elim (decide (headerOutside 1 n f)) [
-      | inl e ↦ rw e (omega arith, omega arith)
-      | inr e ↦
-          let v = none-of (not (eqb 1 1) ∷ not (between 1 64 n) ∷ ltb 128 f ∷ []) e in
-          let few = between-true 1 64 n (not-false (between 1 64 n) (v .1 .0)) in
-          let fewFlows = ltb-false 128 f (v .1 .1 .0) in
-          rw e (else-small (clustersVerdict (s .clusters) n) (flowsVerdict n (s .flows) f)
-          (bad-small (clusterRefusal (s .clusters)) 2 n 0 (λ j. lowest-small 3 (clusterOutside (getD (s .clusters) j absent) ∷ wrongParent j (getD (s .clusters) j absent .parent) ∷ tagTaken (s .clusters) j (getD (s .clusters) j absent .tag) ∷ [])) (omega arith))
-          (bad-small (λ j. flowRefusal n (getD (s .flows) j noFlow)) (2 + n) f 0 (λ j. let h = lowest-small 3 (flowOutside n (getD (s .flows) j noFlow) ∷ []) in omega arith) (omega arith)))
-    ]
