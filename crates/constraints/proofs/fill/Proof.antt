@@ -62,7 +62,8 @@ use Rattle.constraints.proofs.fill as fill
 use Rattle.constraints.proofs.fill.Statement as stated
 use Rattle.constraints.proofs.fill.Code as code
 use Rattle.constraints.proofs.fill.Code.Mir as code-mir
-use Rattle.constraints.proofs.fill.Proof.Progress.{count, Asked, Filled, Stage, Nearer, Nearer-wf, nearer, filled-none, filled-next, filled-all, count-fits, tree-fits, children-fit, place-fits}
+use Rattle.constraints.proofs.fill.Proof.Progress.{count, Asked, Filled, Stage, Nearer, Nearer-wf, nearer, filled-none, filled-next, filled-all, count-fits, tree-fits, children-fit}
+use Rattle.constraints.proofs.Sizes.{bytes, place-fits}
 mod Progress
 
 -- what the function still has of its parameters when it returns: all five
@@ -211,7 +212,7 @@ module _ {M : Type 1} (𝓤 : URA M) (H : Heap 𝓤) (A : Atoms 𝓤) (W : Given
           -- [parents; sources; sinks; limits; their tokens; what e owns; the elements; the open borrow; obs; auth; _15; …]
           assigns ! (bin ! (load ! (from ! (stop !)) (look ! 29 refl)) (lit ! tt) (record { fits = bytes-fit })) (from ! (stop !)) (init ! 15 refl (tt, record { fits = bytes-fit })) $
           assigns ! (bin ! (load ! (from ! (fld ! refl (stop !))) (look-in ! 41 (sub ! 0 refl (whole !)))) (load ! (from ! (stop !)) (look ! 15 refl)) tt) (from ! (stop !)) (init ! 13 refl (tt, tt)) $
-          rewrite ! 13 (λ (k : ℕ). ‵ (fat fullShare tyPtr l₁₅ 0 (vptr b k))) (sym (place-is 12 o i)) refl $ move ! (9 ∷ []) $
+          rewrite ! 13 (λ (k : ℕ). ‵ (fat fullShare tyPtr l₁₅ 0 (vptr b k))) (sym (place-is bytes o i)) refl $ move ! (9 ∷ []) $
           elem-out ! entry.the-row (Is entry.the-row) (shows 𝓤 H A entry.the-row) (struct-laws.vals entry.the-type entry-laws.the-laws) (struct-laws.tells entry.the-type entry-laws.the-laws) fullShare stored i blank b o in-stored (λ _.
           -- [list[i]; what it owns; the others; parents; sources; sinks; limits; their tokens; what e owns; the open borrow; obs; auth; _15; …]
           assigns ! (of-opd ! (load ! (from ! (stop !)) (look ! 19 refl))) (from ! (hop ! (look ! 15 refl) (stop !))) (store-raw ! 0 refl (struct-laws.lawful entry.the-type entry-laws.the-laws 𝓤 H A W .typed e _ is .0)) $
@@ -232,7 +233,7 @@ module _ {M : Type 1} (𝓤 : URA M) (H : Heap 𝓤) (A : Atoms 𝓤) (W : Given
           in-stored : p .0 < length (p .1 .0)
           in-stored = subst (λ (m : ℕ). p .0 < m) (sym (p .1 .1 .1)) in-list
 
-          bytes-fit : p .0 * 12 < 2 ^ 64
+          bytes-fit : p .0 * bytes < 2 ^ 64
           bytes-fit = place-fits (length ys) (p .0) (has-list .1) in-list
 
           next-fits : p .0 + 1 < 2 ^ 64

@@ -72,7 +72,8 @@ use Rattle.constraints.proofs.relax.Code as code
 use Rattle.constraints.proofs.relax.Code.Mir as code-mir
 use Rattle.constraints.proofs.relax.Proof.Contracts.{stayed, Lower, verdict-made, verdict-typed, κs, args, vals, Post, exits, given, to-lower, Lasts, goes}
 use Rattle.constraints.proofs.relax.Proof.Places.{distancesTy, round-on, round-end, one-less, turn-on, called, notes-change, gives-up, next-place, Passed, Locals, list, listV, distancesV, OwnL, OwnD, env, Before-round, At-round, At-turn, At-outcome, At-verdict}
-use Rattle.constraints.proofs.relax.Proof.Rounds.{Says, Round, Fewer, fewer-ends, first-round, none-left, Turn, Nearer, nearer-ends, first-turn, constraint, next-nearer, after-obeyed, after-lowered, below-zero, unchanged-says, next-round, next-fewer, some-left, next-fits, place-fits, left-fits}
+use Rattle.constraints.proofs.relax.Proof.Rounds.{Says, Round, Fewer, fewer-ends, first-round, none-left, Turn, Nearer, nearer-ends, first-turn, constraint, next-nearer, after-obeyed, after-lowered, below-zero, unchanged-says, next-round, next-fewer, some-left, next-fits, left-fits}
+use Rattle.constraints.proofs.Sizes.{bytes, place-fits}
 
 module _ {M : Type 1} (𝓤 : URA M) (H : Heap 𝓤) (A : Atoms 𝓤) (W : Given 𝓤 H A) (at-mem : Memory → SProp 𝓤) (run : Routine → Fun 𝓤) (𝓣 : Tables 𝓤 H) (known : Triple 𝓤 (𝓣 .C #constraints·lower) (Lower 𝓤 H A at-mem run)) (z : Passed)
     (list-room : Room entry.the-row (length (z .ys))) (room : Room u8 (length (z .d₀))) (all-within : Each (Within (length (z .d₀))) (map meaning (z .ys))) where
@@ -141,7 +142,7 @@ module _ {M : Type 1} (𝓤 : URA M) (H : Heap 𝓤) (A : Atoms 𝓤) (W : Given
         -- the element is read
         assigns ! (bin ! (load ! (from ! (stop !)) (look ! 14 refl)) (lit ! tt) (record { fits = place-fits n i (list-room .1) more })) (from ! (stop !)) (init ! 24 refl (tt, record { fits = place-fits n i (list-room .1) more })) $
         assigns ! (bin ! (load ! (from ! (fld ! refl (stop !))) (look-in ! 6 (sub ! 0 refl (whole !)))) (load ! (from ! (stop !)) (look ! 24 refl)) tt) (from ! (stop !)) (init ! 28 refl (tt, tt)) $
-        rewrite ! 28 (λ (k : ℕ). ‵ (fat fullShare tyPtr (l .l₁₂) 0 (vptr (z .b) k))) (sym (place-is 12 (z .o) i)) refl $
+        rewrite ! 28 (λ (k : ℕ). ‵ (fat fullShare tyPtr (l .l₁₂) 0 (vptr (z .b) k))) (sym (place-is bytes (z .o) i)) refl $
         use1 W (‵ (OwnL z) ⊛ ‵ (OwnL z)) (shr-slice-copy 𝓤 H A W (named 0) (z .κ) entry.the-row .twice (list z) (listV z ∷ [])) $ split ! $ fsplit ! $ drop ! $ fsplit ! $ drop ! $ move ! (0 ∷ 2 ∷ []) $
         looks-slice ! tt entry.the-row (Is entry.the-row) (shows 𝓤 H A entry.the-row) (StructLaws.vals entry.the-type entry-laws.the-laws) (StructLaws.tells entry.the-type entry-laws.the-laws) (StructLaws.copy entry.the-type entry-laws.the-copy 𝓤 H A W) ys (z .b) (z .o) (λ q″.
         elem-out ! entry.the-row (Is entry.the-row) (shows 𝓤 H A entry.the-row) (StructLaws.vals entry.the-type entry-laws.the-laws) (StructLaws.tells entry.the-type entry-laws.the-laws) q″ ys i blank (z .b) (z .o) more (λ is-entry.

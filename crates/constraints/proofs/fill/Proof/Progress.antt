@@ -12,10 +12,6 @@ use Rattle.constraints.specs.Entries.{blank, siteEntries}
 use Rattle.constraints.specs.EntryLaws.{site-entries-length}
 use Rattle.constraints.specs.ListLaws.{stored-next}
 
--- an element's place in bytes fits, where the elements have room
-pub place-fits : (n i : ℕ) → n * 12 < 2 ^ 63 → i < n → i * 12 < 2 ^ 64
-place-fits n i room h = omega arith
-
 module _ (ps ss ts ls : List ℕ) (ys : List Entry) where
   abbrev pub count : ℕ
   count = 2 * (length ps - 1) + length ss

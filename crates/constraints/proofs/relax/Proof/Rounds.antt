@@ -4,7 +4,7 @@ use mathlib.Core.Path.{_≡_, refl, sym, _∙_}
 use mathlib.Core.Bool.{Bool, true, false, not}
 use mathlib.Core.List.{List, [], _∷_, map}
 use mathlib.Core.WellFounded.{WellFounded, InvImage·wf}
-use Prim.Native.Nat.{ℕ, zero, suc, _+_, _-_, _*_, _^_, _≤_, _<_}
+use Prim.Native.Nat.{ℕ, zero, suc, _+_, _-_, _^_, _≤_, _<_}
 use native.Mathlib.Numerals.{add-one}
 use native.Mathlib.Omega.{arith}
 use lib.Dec.{T, T-not, eqb, eqb-refl}
@@ -38,9 +38,6 @@ some-left (suc left) t = omega arith
 
 pub next-fits : (place n : ℕ) → n < 2 ^ 64 → place < n → place + 1 < 2 ^ 64
 next-fits place n room more = omega arith
-
-pub place-fits : (n place : ℕ) → n * 12 < 2 ^ 63 → place < n → place * 12 < 2 ^ 64
-place-fits n place room more = omega arith
 
 pub left-fits : (left n : ℕ) → left ≤ n → n < 2 ^ 64 → left - 1 < 2 ^ 64
 left-fits left n at-most room = omega arith
