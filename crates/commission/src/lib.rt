@@ -11,7 +11,7 @@ ghost use Rattle.shown.specs.Shown.{lineStart, lineAt};
 ghost use Rattle.commission.specs.Numbers.{refusalNumber, planNumber, planRoom, rewriteNumber, rewriteRoom};
 
 // A refusal as one number.
-fn refusal(number: u8, line: usize) -> u32
+fn refusal_number(number: u8, line: usize) -> u32
     requires { ⌜ line ≤ 194 ⌝ }
     ensures { λ r. ⌜ r ≡ refusalNumber number line ⌝ }
 {
@@ -26,19 +26,19 @@ fn read_and(text: &[u8], room: &mut [u8], planning: bool) -> u32
     let reading = site::read(text);
     let verdict = reading.verdict;
     match verdict {
-        Verdict::Refused { number, line } => refusal(number, line),
+        Verdict::Refused { number, line } => refusal_number(number, line),
         Verdict::Accepted => {
             if planning {
                 let answer = planner::plan_accepted(reading.site, room);
                 match answer {
                     Planned::Plan { length, order: _ } => length as u32,
-                    Planned::Refused { number, line } => refusal(number, line),
+                    Planned::Refused { number, line } => refusal_number(number, line),
                 }
             } else {
                 let written = writer::put_site(room, reading.site);
                 match written {
                     Written::Length(length) => length as u32,
-                    Written::Refused { number, line } => refusal(number, line),
+                    Written::Refused { number, line } => refusal_number(number, line),
                 }
             }
         }

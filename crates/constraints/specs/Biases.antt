@@ -12,7 +12,7 @@ use Rattle.model.specs.Constraints.{Constraint, risesOnce, neverFalls, treeCons
 use Rattle.model.specs.Counting.{Each, at}
 use Rattle.model.specs.CountingLaws.{passes-or-fails, each-imply, each-map, each-append}
 use Rattle.model.specs.Orders.{interval}
-use Rattle.model.specs.Relaxing.{okay, allOkay, relax, round, settle}
+use Rattle.model.specs.Relaxing.{okay, allOkay, relax, round, settledWithin}
 use Rattle.model.specs.RelaxingLaws.{okay-if, broken-if, relax-keeps, relax-lowers, relax-refuses, settle-ends}
 use Rattle.model.specs.Sites.{Flow, Site, size, parent, Sound}
 use Rattle.model.specs.TreeLaws.{depth-at-most}
@@ -64,12 +64,12 @@ unfolding round
 round-biased [] d h = refl
 round-biased (k ∷ ks) d h = rw (relax-biased k d (h .0), round) (same-after (relax k d) (λ e. round-biased ks e (h .1)))
 
-pub settle-biased : (rounds : ℕ) (ks : List Constraint) (d : List ℕ) → Each Covered ks → settle rounds (map biased ks) d ≡ settle rounds ks d
-unfolding settle
+pub settle-biased : (rounds : ℕ) (ks : List Constraint) (d : List ℕ) → Each Covered ks → settledWithin rounds (map biased ks) d ≡ settledWithin rounds ks d
+unfolding settledWithin
 settle-biased zero ks d h = refl
 settle-biased (suc rounds) ks d h = elim (passes-or-fails (allOkay ks d)) [
   | inl e ↦ settle-ends rounds (map biased ks) d (all-okay-biased ks d h ∙ e) ∙ sym (settle-ends rounds ks d e)
-  | inr e ↦ rw (all-okay-biased ks d h, e, round-biased ks d h, settle) (same-after (round ks d) (λ r. settle-biased rounds ks r h))
+  | inr e ↦ rw (all-okay-biased ks d h, e, round-biased ks d h, settledWithin) (same-after (round ks d) (λ r. settle-biased rounds ks r h))
 ]
 
 -- ## The bias covers the debits of a site

@@ -12,7 +12,7 @@ abbrev pub bias : ℕ
 bias = 64
 
 abbrev pub entry : ℕ → ℕ → ℕ → Entry
-entry f t l = record { from = f; to = t; limit = l }
+entry f t l = record { from = f; to = t; credit = l }
 
 -- what stands behind the end of a list
 abbrev pub blank : Entry
@@ -20,7 +20,7 @@ blank = entry 0 0 0
 
 -- the constraint that an entry says
 abbrev pub meaning : Entry → Constraint
-meaning e = record { from = e .from; to = e .to; credit = e .limit; debit = bias }
+meaning e = record { from = e .from; to = e .to; credit = e .credit; debit = bias }
 
 -- the two entries of each of the k clusters from c on: N of the child is at most 1 above its parent's, and not below it
 unfoldable pub treeEntries : (ℕ → ℕ) → ℕ → ℕ → List Entry

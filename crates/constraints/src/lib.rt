@@ -5,16 +5,16 @@ ghost use Prim.Native.Nat.{_+_, _-_, _*_, _/_, _≤_, _<_};
 ghost use lib.ListN.{length, drop, getD};
 ghost use Rattle.model.specs.ConstraintLaws.{Within};
 ghost use Rattle.model.specs.Counting.{Each};
-ghost use Rattle.model.specs.Relaxing.{settle as settled};
+ghost use Rattle.model.specs.Relaxing.{settledWithin};
 ghost use Rattle.constraints.specs.Entries.{blank, meaning, siteEntries, limitsOf, Shallow};
 ghost use Rattle.constraints.specs.Steps.{outcome, lowered, settledAs};
 
-// N(to) - N(from) is at most the limit. It may be below 0, so what stands here is BIAS above it. All
-// three are as wide as the limit, so that an entry has no gap and is taken apart without shifts.
+// N(to) - N(from) is at most a limit, which may be below 0: `credit` is BIAS above it. All three
+// numbers are as wide as the credit, so that an entry has no gap and is taken apart without shifts.
 pub struct Constraint {
     from: u32,
     to: u32,
-    limit: u32,
+    credit: u32,
 }
 
 // What relaxing comes to: distances that obey every constraint, or a loop of negative sum.
@@ -75,7 +75,7 @@ fn constraint_at(
         return Constraint {
             from: sinks[flow] as u32,
             to: sources[flow] as u32,
-            limit: limits[flow],
+            credit: limits[flow],
         };
     }
     let child = place / 2 + 1;
@@ -83,13 +83,13 @@ fn constraint_at(
         Constraint {
             from: parents[child] as u32,
             to: child as u32,
-            limit: BIAS + 1,
+            credit: BIAS + 1,
         }
     } else {
         Constraint {
             from: child as u32,
             to: parents[child] as u32,
-            limit: BIAS,
+            credit: BIAS,
         }
     }
 }
@@ -115,11 +115,11 @@ fn fill(
 }
 
 // Lowers the distance of `to` as far as the constraint asks, unless it would fall below 0.
-fn lower(from: u32, to: u32, limit: u32, distances: &mut [u8]) -> Step
+fn lower(from: u32, to: u32, credit: u32, distances: &mut [u8]) -> Step
     requires { ⌜ (from < length (now distances)) × (to < length (now distances)) ⌝ }
-    ensures { λ r. ⌜ (r ≡ outcome (record { from = from; to = to; limit = limit }) (now (distances .entry))) × (now (distances .exit) ≡ lowered (record { from = from; to = to; limit = limit }) (now (distances .entry))) ⌝ }
+    ensures { λ r. ⌜ (r ≡ outcome (record { from = from; to = to; credit = credit }) (now (distances .entry))) × (now (distances .exit) ≡ lowered (record { from = from; to = to; credit = credit }) (now (distances .entry))) ⌝ }
 {
-    let reach = distances[from as usize] as usize + limit as usize;
+    let reach = distances[from as usize] as usize + credit as usize;
     if distances[to as usize] as usize + BIAS as usize <= reach {
         return Step::Obeyed;
     }
@@ -135,7 +135,7 @@ fn lower(from: u32, to: u32, limit: u32, distances: &mut [u8]) -> Step
 // of negative sum.
 fn relax(list: &[Constraint], distances: &mut [u8]) -> Settling
     requires { ⌜ Each (Within (length (now distances))) (map meaning (now list)) ⌝ }
-    ensures { λ r. ⌜ (settled (length (now (distances .entry))) (map meaning (now (list .entry))) (now (distances .entry)) ≡ settledAs r (now (distances .exit))) × (length (now (distances .exit)) ≡ length (now (distances .entry))) ⌝ }
+    ensures { λ r. ⌜ (settledWithin (length (now (distances .entry))) (map meaning (now (list .entry))) (now (distances .entry)) ≡ settledAs r (now (distances .exit))) × (length (now (distances .exit)) ≡ length (now (distances .entry))) ⌝ }
 {
     let mut left = distances.len();
     'rounds: loop {
@@ -146,7 +146,7 @@ fn relax(list: &[Constraint], distances: &mut [u8]) -> Settling
         let mut i: usize = 0;
         while i < list.len() {
             let constraint = list[i];
-            let step = lower(constraint.from, constraint.to, constraint.limit, distances);
+            let step = lower(constraint.from, constraint.to, constraint.credit, distances);
             match step {
                 Step::Obeyed => {}
                 Step::Lowered => changed = true,
@@ -172,12 +172,12 @@ pub fn settle(
 ) -> Settling
     requires { ⌜ (0 < length (now parents)) × (length (now parents) ≤ 64) × (length (now sources) ≤ 128) × (length (now sinks) ≡ length (now sources)) × (length (now limits) ≡ length (now sources)) ⌝ }
     requires { ⌜ Each (Within (length (now distances))) (map meaning (siteEntries (now parents) (now sources) (now sinks) (now limits))) ⌝ }
-    ensures { λ r. ⌜ (settled (length (now (distances .entry))) (map meaning (siteEntries (now (parents .entry)) (now (sources .entry)) (now (sinks .entry)) (now (limits .entry)))) (now (distances .entry)) ≡ settledAs r (now (distances .exit))) × (length (now (distances .exit)) ≡ length (now (distances .entry))) ⌝ }
+    ensures { λ r. ⌜ (settledWithin (length (now (distances .entry))) (map meaning (siteEntries (now (parents .entry)) (now (sources .entry)) (now (sinks .entry)) (now (limits .entry)))) (now (distances .entry)) ≡ settledAs r (now (distances .exit))) × (length (now (distances .exit)) ≡ length (now (distances .entry))) ⌝ }
 {
     let mut list = [Constraint {
         from: 0,
         to: 0,
-        limit: 0,
+        credit: 0,
     }; 254];
     let count = fill(&mut list, parents, sources, sinks, limits);
     relax(&list[..count], distances)

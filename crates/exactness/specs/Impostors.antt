@@ -11,12 +11,12 @@ use Rattle.hexline.specs.Listing.{linesOf}
 use Rattle.hexline.specs.Loops.{every}
 use Rattle.hexline.specs.Room.{handed}
 use Rattle.model.specs.Constraints.{treeConstraints, descent, constraints}
-use Rattle.model.specs.Counting.{sumBelow, allBelow, lowest, values}
+use Rattle.model.specs.Counting.{sumBelow, allBelow, leastWhere, values}
 use Rattle.model.specs.Crossings.{allowed}
 use Rattle.model.specs.Exactness.{Permitted, Fits, Placeless, plan-is-exact}
 use Rattle.model.specs.Orders.{symbols, isOrder, withinAll, permitted}
 use Rattle.model.specs.Plans.{fits, candidate, planned, search, plan}
-use Rattle.model.specs.Relaxing.{okay, allOkay, relax, round, settle, depths, solve}
+use Rattle.model.specs.Relaxing.{okay, allOkay, relax, round, settledWithin, depths, solve}
 use Rattle.model.specs.Sequences.{before, ready, next, nextOnes, sequence, startIn, starts}
 use Rattle.model.specs.Trees.{totalWithin, total, depth, topWithin, top}
 use Rattle.site.specs.declared.Cluster.{Cluster}
@@ -137,7 +137,7 @@ record Worked : Type 0 where
   twins-cut : answer (cutTags twins) 123 ≡ Refused 6 3
 
 worked : Worked
-unfolding P1 P3 P4 P5 P6 P7 P8 lone pair chain twins tall noSite firstFlow cutTags answer roomAfter checked headerOutside clustersVerdict flowsVerdict firstBad clusterRefusal flowRefusal clusterOutside printableTag flowOutside wrongParent tagTaken sameTag every siteOf plan search candidate fits permitted isOrder withinAll symbols starts startIn sequence nextOnes next ready before solve depths settle round relax allOkay okay constraints descent treeConstraints allowed top topWithin depth total totalWithin values lowest allBelow sumBelow planText planHeader planLines planLine clusterLine linesOf fieldBytes numberBytes lineOf hexes hexOf handed startsIn rows digit byteAt numberAt
+unfolding P1 P3 P4 P5 P6 P7 P8 lone pair chain twins tall noSite firstFlow cutTags answer roomAfter checked headerOutside clustersVerdict flowsVerdict firstBad clusterRefusal flowRefusal clusterOutside printableTag flowOutside wrongParent tagTaken sameTag every siteOf plan search candidate fits permitted isOrder withinAll symbols starts startIn sequence nextOnes next ready before solve depths settledWithin round relax allOkay okay constraints descent treeConstraints allowed top topWithin depth total totalWithin values leastWhere allBelow sumBelow planText planHeader planLines planLine clusterLine linesOf fieldBytes numberBytes lineOf hexes hexOf handed startsIn rows digit byteAt numberAt
 worked = record {
   P1-planned = refl;
   P1-begins = refl;

@@ -9,7 +9,7 @@ use lib.ListN.{length, getD, length-append}
 use Rattle.hexline.specs.Digits.{lineOf}
 use Rattle.hexline.specs.Listing.{linesOf}
 use Rattle.model.specs.Counting.{sumBelow, sumOver}
-use Rattle.model.specs.Exactness.{Planned}
+use Rattle.model.specs.Exactness.{IsPlan}
 use Rattle.model.specs.Orders.{portion}
 use Rattle.model.specs.Sequences.{starts}
 use Rattle.site.specs.declared.Cluster.{Cluster}
@@ -17,7 +17,7 @@ use Rattle.site.specs.declared.Site.{Site}
 use Rattle.site.specs.declared.Verdict.the-variants.{Accepted}
 use Rattle.site.specs.Records.{absent}
 use Rattle.records.specs.Check.{checked}
-use Rattle.records.specs.Checked.{checked-sound, counts-in, site-cluster-in}
+use Rattle.records.specs.Checked.{checked-unrefused, counts-in, site-cluster-in}
 use Rattle.plantext.specs.PlanText.{siteOf, planLine, planLines, planText}
 use Rattle.plantext.specs.PlanTextLaws.{cluster-length, text-length}
 use Rattle.planner.specs.SiteLaws.{clusters-counted}
@@ -32,12 +32,12 @@ unfolding sumBelow
 sum-at-most zero most f h = omega arith
 sum-at-most (suc n) most f h = omega (arith, h n (omega arith), sum-at-most n most f (λ i l. h i (omega arith)), suc-mul n most)
 
-module _ (s : Site) (accepted : checked s ≡ Accepted) (order : ℕ) (sequence : List ℕ) (plan : Planned (siteOf s) order sequence) where
+module _ (s : Site) (accepted : checked s ≡ Accepted) (order : ℕ) (sequence : List ℕ) (plan : IsPlan (siteOf s) order sequence) where
   line-at-most : (c : ℕ) → c < s .«cluster_count» → length (lineOf (planLine s sequence c)) ≤ 151
   unfolding planLine
   line-at-most c l =
       let cluster : Cluster = getD (s .clusters) c absent in
-      let within = site-cluster-in s (checked-sound s accepted) c l in
+      let within = site-cluster-in s (checked-unrefused s accepted) c l in
       omega (arith, cluster-length c (starts (siteOf s) sequence c) (portion (cluster .order)) (cluster .tag) (within .whole))
 
   pub longest-plan : length (planText s order sequence) ≤ 9673
@@ -52,5 +52,5 @@ module _ (s : Site) (accepted : checked s ≡ Accepted) (order : ℕ) (sequence 
         plan .each-once size,
         ap (λ m. sumBelow m size) (clusters-counted s accepted),
         sum-at-most n 151 size line-at-most,
-        counts-in s (checked-sound s accepted) .clusters,
+        counts-in s (checked-unrefused s accepted) .clusters,
       )

@@ -15,7 +15,7 @@ use Rattle.hexline.specs.Listing.{linesOf}
 use Rattle.hexline.specs.RoundTrip.{Fit, fieldsAt, fields-back, number-one, rows-line}
 use Rattle.model.specs.Counting.{Each, bit, member, sumBelow, sumOver}
 use Rattle.model.specs.CountingLaws.{passes-or-fails, and-both, member-other, length-is-sum, sum-of-ones}
-use Rattle.model.specs.Exactness.{Permitted, Planned}
+use Rattle.model.specs.Exactness.{Permitted, IsPlan}
 use Rattle.model.specs.OrderLaws.{symbols-bounded}
 use Rattle.model.specs.Orders.{largest, portion, interval, isOrder, withinAll, permitted}
 use Rattle.model.specs.Sequences.{starts}
@@ -26,7 +26,7 @@ use Rattle.site.specs.declared.Site.{Site}
 use Rattle.site.specs.declared.Verdict.the-variants.{Accepted}
 use Rattle.site.specs.Records.{absent}
 use Rattle.records.specs.Check.{checked}
-use Rattle.records.specs.Checked.{ClusterIn, checked-sound, counts-in, site-cluster-in}
+use Rattle.records.specs.Checked.{ClusterIn, checked-unrefused, counts-in, site-cluster-in}
 use Rattle.plantext.specs.PlanText.{siteOf, planHeader, clusterLine, planLine, planLines, planText}
 use Rattle.exactness.specs.EachOnce.{each-is-cluster, has-each-cluster, has-each-once}
 use Rattle.exactness.specs.PlanRead.{isLineOf, startAmong, orderIn, linesFor, startsIn}
@@ -45,7 +45,7 @@ unfolding linesOf rows
 rows-of-lines bytes [] = refl
 rows-of-lines bytes (x ∷ xs) = ap length (rows-line (bytes x) (linesOf bytes xs)) ∙ ap suc (rows-of-lines bytes xs)
 
-module _ (s : Site) (accepted : checked s ≡ Accepted) (order : ℕ) (sequence : List ℕ) (plan : Planned (siteOf s) order sequence) where
+module _ (s : Site) (accepted : checked s ≡ Accepted) (order : ℕ) (sequence : List ℕ) (plan : IsPlan (siteOf s) order sequence) where
   abbrev n : ℕ
   n = s .«cluster_count»
 
@@ -53,7 +53,7 @@ module _ (s : Site) (accepted : checked s ≡ Accepted) (order : ℕ) (sequence 
   start = starts (siteOf s) sequence
 
   few : n ≤ 64
-  few = counts-in s (checked-sound s accepted) .clusters
+  few = counts-in s (checked-unrefused s accepted) .clusters
 
   start-small : (c : ℕ) → c < n → start c < 16777216
   start-small c l = omega (
@@ -70,7 +70,7 @@ module _ (s : Site) (accepted : checked s ≡ Accepted) (order : ℕ) (sequence 
     unfolding planLine clusterLine fieldsAt
     line-fields =
         let cluster : Cluster = getD (s .clusters) c absent in
-        let within : ClusterIn cluster = site-cluster-in s (checked-sound s accepted) c l in
+        let within : ClusterIn cluster = site-cluster-in s (checked-unrefused s accepted) c l in
         let long = symbols-bounded (within .order) in
         let widths : List ℕ = 1 ∷ 1 ∷ 4 ∷ 4 ∷ 1 ∷ [] in
         let values : List ℕ = 130 ∷ c ∷ start c ∷ portion (cluster .order) ∷ cluster .tag .len ∷ [] in

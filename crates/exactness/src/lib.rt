@@ -1,2 +1,1 @@
 // Theorems alone, in specs/: PlannerExact, CallerExact, LongestPlan, Impostors and EqualResults.
-pub fn nothing() {}

@@ -17,7 +17,7 @@ use Rattle.model.specs.Counting.{Each, at, bit, sumBelow}
 use Rattle.model.specs.CountingLaws.{passes-or-fails, sum-less, sum-positive, sum-zero, sum-of-ones}
 use Rattle.model.specs.GreatestSolution.{Below, Pushed, Rounded, RoundFrom, rounded, SettledFrom, settled, hold-all-okay}
 use Rattle.model.specs.RelaxingLaws.{round-keeps, settle-ends, settle-goes-on, settle-refuses, depths-length, depths-at, depths-root}
-use Rattle.model.specs.Relaxing.{allOkay, round, settle, depths, solve}
+use Rattle.model.specs.Relaxing.{allOkay, round, settledWithin, depths, solve}
 use Rattle.model.specs.Sites.{Site, size, parent, Sound}
 use Rattle.model.specs.TreeLaws.{depth-step}
 use Rattle.model.specs.Trees.{depth}
@@ -101,16 +101,16 @@ module _
         each [] w h = tt
         each (k ∷ l) w h = (omega (arith, final (k .to) (w .0 .1), u (k .from) (w .0 .0)), each l (w .1) (h .1))
 
-    more-than-open-settle : (rounds : ℕ) (d : List ℕ) → length d ≡ n → ((i : ℕ) → at d i ≤ at d₀ i) → Below n D d → openCount d < rounds → IsSome (settle rounds ks d)
-    unfolding settle
+    more-than-open-settle : (rounds : ℕ) (d : List ℕ) → length d ≡ n → ((i : ℕ) → at d i ≤ at d₀ i) → Below n D d → openCount d < rounds → IsSome (settledWithin rounds ks d)
+    unfolding settledWithin
     more-than-open-settle zero d l b u h = absurd (omega arith)
     more-than-open-settle (suc rounds) d l b u h = elim (passes-or-fails (allOkay ks d)) [
-      | inl e ↦ rw (e, settle) tt
-      | inr e ↦ rw (e, settle) (from-round (more-than-open-settle rounds) e (round ks d) (rounded n ks d within l))
+      | inl e ↦ rw (e, settledWithin) tt
+      | inr e ↦ rw (e, settledWithin) (from-round (more-than-open-settle rounds) e (round ks d) (rounded n ks d within l))
     ]
       where
-        from-round : ((g : List ℕ) → length g ≡ n → ((i : ℕ) → at g i ≤ at d₀ i) → Below n D g → openCount g < rounds → IsSome (settle rounds ks g))
-            → allOkay ks d ≡ false → (r : Option (List ℕ)) → RoundFrom n ks d r → IsSome (elim r [ none ↦ none | some g ↦ settle rounds ks g ])
+        from-round : ((g : List ℕ) → length g ≡ n → ((i : ℕ) → at g i ≤ at d₀ i) → Below n D g → openCount g < rounds → IsSome (settledWithin rounds ks g))
+            → allOkay ks d ≡ false → (r : Option (List ℕ)) → RoundFrom n ks d r → IsSome (elim r [ none ↦ none | some g ↦ settledWithin rounds ks g ])
         from-round ih e none a = a D holds u
         from-round ih e (some g) a = ih g (a .size-kept) (λ i. omega (arith, a .falls i, b i)) (a .bounds D holds u) (elim (passes-or-fails (ltb 0 (openCount d))) [
           | inl t ↦ omega (arith, round-makes-final d g b u a (ltb-true 0 (openCount d) t))
@@ -131,19 +131,19 @@ module _ (ks : List Constraint) where
   rounds-keep (suc k) d t = rw (round-keeps ks d t, roundsFrom) (rounds-keep k d t)
 
   module _ (e : List ℕ) where
-    settled-at-once : (k : ℕ) (d : List ℕ) → allOkay ks d ≡ true → settle (suc k) ks d ≡ some e → (roundsFrom k ks d ≡ some e) × (allOkay ks e ≡ true)
+    settled-at-once : (k : ℕ) (d : List ℕ) → allOkay ks d ≡ true → settledWithin (suc k) ks d ≡ some e → (roundsFrom k ks d ≡ some e) × (allOkay ks e ≡ true)
     settled-at-once k d t h = let p : some d ≡ some e = sym (settle-ends k ks d t) ∙ h in let q : d ≡ e = cc in rw (← q) (rounds-keep k d t, t)
 
-    settled-later : (k : ℕ) (d : List ℕ) → allOkay ks d ≡ false → settle (suc k) ks d ≡ some e → (g : List ℕ) × (round ks d ≡ some g) × (settle k ks g ≡ some e)
+    settled-later : (k : ℕ) (d : List ℕ) → allOkay ks d ≡ false → settledWithin (suc k) ks d ≡ some e → (g : List ℕ) × (round ks d ≡ some g) × (settledWithin k ks g ≡ some e)
     settled-later k d f h = from-round (round ks d) refl
       where
-        from-round : (r : Option (List ℕ)) → round ks d ≡ r → (g : List ℕ) × (round ks d ≡ some g) × (settle k ks g ≡ some e)
+        from-round : (r : Option (List ℕ)) → round ks d ≡ r → (g : List ℕ) × (round ks d ≡ some g) × (settledWithin k ks g ≡ some e)
         from-round none r = let p : none ≡ some e = sym (settle-refuses k ks d r) ∙ h in let z : _≡_ {A = ℕ} 0 1 = cc in absurd (omega arith)
         from-round (some g) r = (g, r, sym (settle-goes-on k ks d f r) ∙ h)
 
     -- the last of the tests follows one round fewer
-    settled-within : (k : ℕ) (d : List ℕ) → settle (suc k) ks d ≡ some e → (roundsFrom k ks d ≡ some e) × (allOkay ks e ≡ true)
-    unfolding settle roundsFrom
+    settled-within : (k : ℕ) (d : List ℕ) → settledWithin (suc k) ks d ≡ some e → (roundsFrom k ks d ≡ some e) × (allOkay ks e ≡ true)
+    unfolding settledWithin roundsFrom
     settled-within zero d h = elim (passes-or-fails (allOkay ks d)) [
       | inl t ↦ settled-at-once 0 d t h
       | inr f ↦ let x = settled-later 0 d f h in let p : none ≡ some e = x .2 in let z : _≡_ {A = ℕ} 0 1 = cc in absurd (omega arith)
@@ -191,18 +191,18 @@ module _ (s : Site) (order : ℕ) (w : Sound s) where
   abbrev all : List Constraint
   all = constraints s order
 
-  settling : (rounds : ℕ) → SettledFrom (size s) rounds all (depths s) (settle rounds all (depths s))
+  settling : (rounds : ℕ) → SettledFrom (size s) rounds all (depths s) (settledWithin rounds all (depths s))
   settling rounds = settled (size s) rounds all (depths s) (constraints-within s order w) (depths-length s)
 
   enough : ℕ
   enough = suc (sumBelow (size s) (at (depths s)))
 
   -- where there is a solution, enough rounds settle, so there is a greatest one; and then as many rounds as clusters settle
-  solution-settles : (N : ℕ → ℕ) → Solution s order N → IsSome (settle (size s) all (depths s))
+  solution-settles : (N : ℕ → ℕ) → Solution s order N → IsSome (settledWithin (size s) all (depths s))
   unfolding openCount enough
-  solution-settles N a = from-settled (settle enough all (depths s)) (settling enough)
+  solution-settles N a = from-settled (settledWithin enough all (depths s)) (settling enough)
     where
-      from-settled : (r : Option (List ℕ)) → SettledFrom (size s) enough all (depths s) r → IsSome (settle (size s) all (depths s))
+      from-settled : (r : Option (List ℕ)) → SettledFrom (size s) enough all (depths s) r → IsSome (settledWithin (size s) all (depths s))
       from-settled none b = absurd (b (omega arith) N (a .holds) (solution-below-depths N a))
       from-settled (some g) b = more-than-open-settle
           (size s)
@@ -221,7 +221,7 @@ module _ (s : Site) (order : ℕ) (w : Sound s) where
 
   pub solved : Solved s order (solve s order)
   unfolding solve
-  solved = from-settled (settle (size s) all (depths s)) (settling (size s)) solution-settles
+  solved = from-settled (settledWithin (size s) all (depths s)) (settling (size s)) solution-settles
     where
       from-settled : (r : Option (List ℕ)) → SettledFrom (size s) (size s) all (depths s) r → ((N : ℕ → ℕ) → Solution s order N → IsSome r) → Solved s order r
       from-settled none a h = h
@@ -233,4 +233,4 @@ module _ (s : Site) (order : ℕ) (w : Sound s) where
       → (roundsFrom (size s - 1) (constraints s order) (depths s) ≡ some d) × (allOkay (constraints s order) d ≡ true)
   unfolding solve
   solved-within d e = let p = w .some-cluster in let q : size s ≡ suc (size s - 1) = omega arith in
-      settled-within all d (size s - 1) (depths s) (sym (ap (λ r. settle r all (depths s)) q) ∙ e)
+      settled-within all d (size s - 1) (depths s) (sym (ap (λ r. settledWithin r all (depths s)) q) ∙ e)

@@ -4,16 +4,16 @@ use Prim.Native.Nat.{ℕ}
 use lib.ListN.{take}
 use Rattle.model.specs.Plans.{Outcome, planned, noFit, noPlacing}
 use Rattle.planner.specs.declared.Schedule.{Schedule}
-use Rattle.planner.specs.declared.Schedule.the-variants.{Placed, NoFit, NoPlacing}
+use Rattle.planner.specs.declared.Schedule.the-variants.{Made, NoFit, NoPlacing}
 
 -- the outcome that a schedule says, the clusters in order of start being the first entries of a slice
 unfoldable pub scheduledAs : Schedule → List ℕ → Outcome
-scheduledAs (Placed order count) placed = planned order (take count placed)
+scheduledAs (Made order count) placed = planned order (take count placed)
 scheduledAs NoFit placed = noFit
 scheduledAs NoPlacing placed = noPlacing
 
 -- and how many entries it speaks of
 unfoldable pub scheduledCount : Schedule → ℕ
-scheduledCount (Placed order count) = count
+scheduledCount (Made order count) = count
 scheduledCount NoFit = 0
 scheduledCount NoPlacing = 0

@@ -16,7 +16,7 @@ use Rattle.model.specs.OrderLaws.{symbols-bounded, shortest-decides}
 use Rattle.model.specs.Relaxing.{depths}
 use Rattle.model.specs.Sites as model
 use Rattle.model.specs.Trees.{depth}
-use Rattle.plantext.specs.PlanText.{flowOf, siteOf}
+use Rattle.plantext.specs.PlanText.{modelFlow, siteOf}
 use Rattle.plantext.specs.PlanTextLaws.{field-at, order-at}
 use Rattle.search.specs.Posed.{Posed}
 use Rattle.site.specs.declared.Cluster.{Cluster}
@@ -24,7 +24,7 @@ use Rattle.site.specs.declared.Flow.{Flow}
 use Rattle.site.specs.declared.Site.{Site}
 use Rattle.site.specs.declared.Verdict.the-variants.{Accepted}
 use Rattle.records.specs.Check.{checked}
-use Rattle.records.specs.Checked.{checked-sound, counts-in, cluster-tests, site-cluster-in, site-flow-in, clusters-reach, flows-reach}
+use Rattle.records.specs.Checked.{checked-unrefused, counts-in, cluster-tests, site-cluster-in, site-flow-in, clusters-reach, flows-reach}
 use Rattle.site.specs.Records.{absent, noFlow, wrongParent}
 use Rattle.planner.specs.Numbers.{periodsOf, descentAt, FlowsInTree}
 use Rattle.planner.specs.NumberLaws.{filled-is-map}
@@ -39,7 +39,7 @@ each-first P (x ∷ xs) (suc n) d h p = (p 0 (omega arith), each-first P xs n d 
 
 -- ## Periods
 
-map-of-map : (fs : List Flow) → map (λ (f : Flow). f .period) fs ≡ map (λ f. f .period) (map flowOf fs)
+map-of-map : (fs : List Flow) → map (λ (f : Flow). f .period) fs ≡ map (λ f. f .period) (map modelFlow fs)
 map-of-map [] = refl
 map-of-map (f ∷ fs) = ap (λ (l : List ℕ). f .period ∷ l) (map-of-map fs)
 
@@ -64,16 +64,16 @@ module _ (s : Site) (accepted : checked s ≡ Accepted) where
   m = siteOf s
 
   pub clusters-whole : n ≤ length (s .clusters)
-  clusters-whole = clusters-reach s (checked-sound s accepted)
+  clusters-whole = clusters-reach s (checked-unrefused s accepted)
 
   pub flows-whole : f ≤ length (s .flows)
-  flows-whole = flows-reach s (checked-sound s accepted)
+  flows-whole = flows-reach s (checked-unrefused s accepted)
 
   pub counts-bounded : (1 ≤ n) × (n ≤ 64) × (f ≤ 128)
-  counts-bounded = let c = counts-in s (checked-sound s accepted) in (c .some, c .clusters, c .flows)
+  counts-bounded = let c = counts-in s (checked-unrefused s accepted) in (c .some, c .clusters, c .flows)
 
-  pub orders-bounded : (c : ℕ) → c < n → getD (s .clusters) c absent .order ≤ 14
-  orders-bounded c l = site-cluster-in s (checked-sound s accepted) c l .order
+  pub orders-bounded : (c : ℕ) → c < n → getD (s .clusters) c absent .order ≤ largest
+  orders-bounded c l = site-cluster-in s (checked-unrefused s accepted) c l .order
 
   pub clusters-counted : model.size m ≡ n
   unfolding siteOf
@@ -81,21 +81,21 @@ module _ (s : Site) (accepted : checked s ≡ Accepted) where
 
   pub flows-counted : length (m .flows) ≡ f
   unfolding siteOf
-  flows-counted = length-map (take f (s .flows)) flowOf ∙ length-take-le f (s .flows) flows-whole
+  flows-counted = length-map (take f (s .flows)) modelFlow ∙ length-take-le f (s .flows) flows-whole
 
   parent-at : (c : ℕ) → c < n → model.parent m c ≡ getD (s .clusters) c absent .parent
   unfolding siteOf
   parent-at = field-at s (λ k. k .parent)
 
-  flow-at : (i : ℕ) → i < f → getD (m .flows) i (flowOf noFlow) ≡ flowOf (getD (s .flows) i noFlow)
+  flow-at : (i : ℕ) → i < f → getD (m .flows) i (modelFlow noFlow) ≡ modelFlow (getD (s .flows) i noFlow)
   unfolding siteOf
-  flow-at i l = List·getD-map flowOf (take f (s .flows)) i noFlow ∙ ap flowOf (getD-take f (s .flows) i noFlow l)
+  flow-at i l = List·getD-map modelFlow (take f (s .flows)) i noFlow ∙ ap modelFlow (getD-take f (s .flows) i noFlow l)
 
-  source-at : (i : ℕ) → i < f → at (map (λ g. g .source) (m .flows)) i ≡ getD (m .flows) i (flowOf noFlow) .source
-  source-at i l = List·getD-map (λ g. g .source) (m .flows) i (flowOf noFlow)
+  source-at : (i : ℕ) → i < f → at (map (λ g. g .source) (m .flows)) i ≡ getD (m .flows) i (modelFlow noFlow) .source
+  source-at i l = List·getD-map (λ g. g .source) (m .flows) i (modelFlow noFlow)
 
-  sink-at : (i : ℕ) → i < f → at (map (λ g. g .sink) (m .flows)) i ≡ getD (m .flows) i (flowOf noFlow) .sink
-  sink-at i l = List·getD-map (λ g. g .sink) (m .flows) i (flowOf noFlow)
+  sink-at : (i : ℕ) → i < f → at (map (λ g. g .sink) (m .flows)) i ≡ getD (m .flows) i (modelFlow noFlow) .sink
+  sink-at i l = List·getD-map (λ g. g .sink) (m .flows) i (modelFlow noFlow)
 
   periods-are : periodsOf (s .flows) f ≡ model.periods m
   unfolding siteOf periodsOf
@@ -104,18 +104,18 @@ module _ (s : Site) (accepted : checked s ≡ Accepted) where
   parent-lower : (c : ℕ) → 0 < c → c < n → getD (s .clusters) c absent .parent < c
   unfolding wrongParent
   parent-lower c p l =
-      let right = cluster-tests s (checked-sound s accepted) c l .1 in
+      let right = cluster-tests s (checked-unrefused s accepted) c l .1 in
       leb-false c _ (rw (ne-eqb c 0 (λ e. omega arith)) at right)
 
   ends-there : (i : ℕ) → i < f → let g = getD (s .flows) i noFlow in (g .source < n) × (g .sink < n)
-  ends-there i l = let g = site-flow-in s (checked-sound s accepted) i l in (g .source, g .sink)
+  ends-there i l = let g = site-flow-in s (checked-unrefused s accepted) i l in (g .source, g .sink)
 
   pub describes-sound : model.Sound m
   unfolding siteOf
   describes-sound = record {
     some-cluster = omega (arith, clusters-counted, counts-bounded .0);
     tree = λ c p l. let here : c < n = omega (arith, clusters-counted) in rw (parent-at c here) (parent-lower c p here);
-    ends = each-map flowOf _ (take f (s .flows)) (each-first _ (s .flows) f noFlow flows-whole (λ i l. rw clusters-counted (ends-there i l)));
+    ends = each-map modelFlow _ (take f (s .flows)) (each-first _ (s .flows) f noFlow flows-whole (λ i l. rw clusters-counted (ends-there i l)));
   }
 
   -- ## Its numbers
@@ -132,8 +132,8 @@ module _ (s : Site) (accepted : checked s ≡ Accepted) where
     total-is total q = q ∙ rw (e, clusters-counted) (sum-same n _ (model.portionOf m) (λ c l. ap portion (sym (order-at s c l))))
 
   module _ (j : ℕ) (e : j ≡ f) where
-    field-is : (h : model.Flow → ℕ) (g : ℕ → ℕ) (xs : List ℕ) → xs ≡ filled g (replicate 128 0) j → ((i : ℕ) → i < f → g i ≡ h (flowOf (getD (s .flows) i noFlow))) → take j xs ≡ map h (m .flows)
-    field-is h g xs q same = rw (q, e) (filled-is-map g h (replicate 128 0) (m .flows) (flowOf noFlow) f (omega (arith, counts-bounded .2)) flows-counted (λ i l. same i l ∙ ap h (sym (flow-at i l))))
+    field-is : (h : model.Flow → ℕ) (g : ℕ → ℕ) (xs : List ℕ) → xs ≡ filled g (replicate 128 0) j → ((i : ℕ) → i < f → g i ≡ h (modelFlow (getD (s .flows) i noFlow))) → take j xs ≡ map h (m .flows)
+    field-is h g xs q same = rw (q, e) (filled-is-map g h (replicate 128 0) (m .flows) (modelFlow noFlow) f (omega (arith, counts-bounded .2)) flows-counted (λ i l. same i l ∙ ap h (sym (flow-at i l))))
 
     pub sources-are : (xs : List ℕ) → xs ≡ filled (λ i. getD (s .flows) i noFlow .source) (replicate 128 0) j → take j xs ≡ map (λ g. g .source) (m .flows)
     sources-are xs q = field-is (λ g. g .source) _ xs q (λ i l. refl)

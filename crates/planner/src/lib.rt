@@ -1,6 +1,7 @@
 // The planner: from a site's records to the plan text in a lent room, or a refusal.
 mod numbers;
 
+use model::wide;
 use numbers::descents_of;
 use numbers::flows_of;
 use numbers::parents_of;
@@ -9,7 +10,6 @@ use numbers::shortest_period;
 use search::Found;
 use site::Site;
 use site::Verdict;
-use site::wide;
 ghost use mathlib.Core.Path.{_≡_};
 ghost use Prim.Native.Nat.{_≤_};
 ghost use lib.ListN.{length};
@@ -30,7 +30,7 @@ pub enum Planned {
 // The order and how many clusters are placed, or that the portions fit no permitted order, or that
 // no placing exists at any.
 enum Schedule {
-    Placed { order: u8, count: usize },
+    Made { order: u8, count: usize },
     NoFit,
     NoPlacing,
 }
@@ -78,7 +78,7 @@ fn place_clusters(site: Site, placed: &mut [u8]) -> Schedule
         Found::NoPlacing => Schedule::NoPlacing,
         Found::Order(order) => {
             let count = sequence::sequence(parents, &counts[..n], placed);
-            Schedule::Placed { order, count }
+            Schedule::Made { order, count }
         }
     }
 }
@@ -94,7 +94,7 @@ pub fn plan_accepted(site: Site, room: &mut [u8]) -> Planned
     match schedule {
         Schedule::NoFit => Planned::Refused { number: 7, line: 0 },
         Schedule::NoPlacing => Planned::Refused { number: 8, line: 0 },
-        Schedule::Placed { order, count } => {
+        Schedule::Made { order, count } => {
             let sequence = &placed[..count];
             if room.len() < plantext::length(site, sequence) {
                 return Planned::Refused { number: 9, line: 0 };

@@ -1,15 +1,15 @@
 // The numbers of a site's records, side by side, and what the search wants of them.
 use model::Order;
+use model::wide;
 use site::Cluster;
 use site::Flow;
 use site::MOST_TIME;
-use site::wide;
 ghost use mathlib.Core.Path.{_≡_};
 ghost use Prim.Native.Nat.{ℕ, _≤_, _<_};
 ghost use lib.ListN.{length, getD, replicate};
 ghost use Rattle.hexline.specs.Loops.{filled};
 ghost use Rattle.model.specs.Counting.{sumBelow};
-ghost use Rattle.model.specs.Orders.{portion, shortest};
+ghost use Rattle.model.specs.Orders.{largest, portion, shortest};
 ghost use Rattle.site.specs.Records.{absent, noFlow};
 ghost use Rattle.planner.specs.Numbers.{periodsOf, descentAt, FlowsInTree};
 
@@ -37,7 +37,7 @@ pub fn parents_of(clusters: [Cluster; 64], n: usize) -> [u8; 64]
 
 // The sum of the portions of the first n clusters.
 pub fn portions_of(clusters: [Cluster; 64], n: usize) -> u32
-    requires { ⌜ (n ≤ 64) × ((c : ℕ) → c < n → getD clusters c absent .order ≤ 14) ⌝ }
+    requires { ⌜ (n ≤ 64) × ((c : ℕ) → c < n → getD clusters c absent .order ≤ largest) ⌝ }
     ensures { λ r. ⌜ r ≡ sumBelow n (λ c. portion (getD clusters c absent .order)) ⌝ }
 {
     let mut sum: u32 = 0;

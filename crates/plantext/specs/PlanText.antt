@@ -19,15 +19,15 @@ use Rattle.site.specs.Records.{absent}
 use Rattle.records.specs.Check.{checked}
 
 -- a flow without its bytes
-abbrev pub flowOf : Flow → model.Flow
-flowOf f = record { source = f .source; sink = f .sink; period = f .period; deadline = f .deadline }
+abbrev pub modelFlow : Flow → model.Flow
+modelFlow f = record { source = f .source; sink = f .sink; period = f .period; deadline = f .deadline }
 
 -- the site that the records describe: as many clusters and flows as the counts say
 unfoldable pub siteOf : Site → model.Site
 siteOf s = record {
   parents = map (λ (c : Cluster). c .parent) (take (s .«cluster_count») (s .clusters));
   orders = map (λ (c : Cluster). c .order) (take (s .«cluster_count») (s .clusters));
-  flows = map flowOf (take (s .«flow_count») (s .flows));
+  flows = map modelFlow (take (s .«flow_count») (s .flows));
 }
 
 -- "a header line of 81, 01, BO, number of clusters"

@@ -22,7 +22,7 @@ use Rattle.site.specs.declared.Cluster.{Cluster}
 use Rattle.site.specs.declared.Site.{Site}
 use Rattle.site.specs.declared.Tag.{Tag}
 use Rattle.site.specs.Records.{absent}
-use Rattle.records.specs.Checked.{ClusterIn, checked-sound, counts-in, site-cluster-in}
+use Rattle.records.specs.Checked.{ClusterIn, checked-unrefused, counts-in, site-cluster-in}
 use Rattle.plantext.specs.PlanText.{siteOf, planHeader, clusterLine, planLine, planLines, planText, Fresh, Placed}
 
 pub header-length : (order n : ℕ) → length (lineOf (planHeader order n)) ≡ 9
@@ -85,10 +85,10 @@ module _ (s : Site) where
     cluster-here = fresh-at (s .«cluster_count») [] xs i (p .fresh) l .0
 
     pub cluster-in-range : ClusterIn cluster
-    cluster-in-range = site-cluster-in s (checked-sound s (p .accepted)) c cluster-here
+    cluster-in-range = site-cluster-in s (checked-unrefused s (p .accepted)) c cluster-here
 
     pub index-in-range : c < 64
-    index-in-range = omega (arith, cluster-here, counts-in s (checked-sound s (p .accepted)) .clusters)
+    index-in-range = omega (arith, cluster-here, counts-in s (checked-unrefused s (p .accepted)) .clusters)
 
     pub next-sum : sumOver (portionOf (siteOf s)) (take (i + 1) xs) ≡ sumOver (portionOf (siteOf s)) (take i xs) + portion (cluster .order)
     next-sum = rw (add-one, take-suc xs i 0 l) (sum-of-one-more (portionOf (siteOf s)) (take i xs) c ∙ ap (λ (o : ℕ). sumOver (portionOf (siteOf s)) (take i xs) + portion o) (order-at c cluster-here))

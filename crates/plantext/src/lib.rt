@@ -1,9 +1,9 @@
 // The plan text (document 01, "The plan that is returned"): its length, and its lines into a room
 // that the caller lends.
 use model::Order;
+use model::wide;
 use site::Site;
 use site::Tag;
-use site::wide;
 ghost use mathlib.Core.Path.{_≡_};
 ghost use Prim.Native.Nat.{ℕ, _+_, _≤_};
 ghost use lib.ListN.{length as size};

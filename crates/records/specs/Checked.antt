@@ -10,6 +10,7 @@ use native.Mathlib.Omega.{arith}
 use lib.ListN.{length, getD, List·getD-eq-default}
 use lib.Dec.{leb, ltb, eqb}
 use borrow.Author.Tests.{leb-true, leb-false, ltb-false, eqb-true, eqb-false, eq-eqb, not-false}
+use Rattle.model.specs.Orders.{largest}
 use Rattle.hexline.specs.Loops.{decide, every-at}
 use Rattle.hexline.specs.Digits.{between}
 use Rattle.hexline.specs.DigitLaws.{between-true}
@@ -48,14 +49,14 @@ both-accept Accepted b e = (refl, e)
 both-accept (Refused m k) b e = absurd (let z : _≡_ {A = ℕ} 0 1 = cc in omega arith)
 
 -- no record of a site is refused
-pub record Sound (s : Site) : Type 0 where
+pub record Unrefused (s : Site) : Type 0 where
   pub header : headerOutside 1 (s .«cluster_count») (s .«flow_count») ≡ false
   pub clusters : (i : ℕ) → i < s .«cluster_count» → clusterRefusal (s .clusters) i ≡ 0
   pub flows : (j : ℕ) → j < s .«flow_count» → flowRefusal (s .«cluster_count») (getD (s .flows) j noFlow) ≡ 0
 
-pub checked-sound : (s : Site) → checked s ≡ Accepted → Sound s
+pub checked-unrefused : (s : Site) → checked s ≡ Accepted → Unrefused s
 unfolding checked clustersVerdict flowsVerdict
-checked-sound s e =
+checked-unrefused s e =
     let n : ℕ = s .«cluster_count» in let f : ℕ = s .«flow_count» in
     elim (decide (headerOutside 1 n f)) [
       | inl q ↦ let z : Refused 4 1 ≡ Accepted = rw q at e in absurd (let z′ : _≡_ {A = ℕ} 0 1 = cc in omega arith)
@@ -68,9 +69,9 @@ checked-sound s e =
           }
     ]
 
-pub sound-checked : (s : Site) → Sound s → checked s ≡ Accepted
+pub unrefused-checked : (s : Site) → Unrefused s → checked s ≡ Accepted
 unfolding checked clustersVerdict flowsVerdict
-sound-checked s h =
+unrefused-checked s h =
     let n : ℕ = s .«cluster_count» in let f : ℕ = s .«flow_count» in
     let c : firstBad (clusterRefusal (s .clusters)) 2 n 0 ≡ Accepted = all-good _ 2 n 0 (λ i a b. h .clusters i (omega arith)) in
     let w : firstBad (λ j. flowRefusal n (getD (s .flows) j noFlow)) (2 + n) f 0 ≡ Accepted = all-good _ (2 + n) f 0 (λ j a b. h .flows j (omega arith)) in
@@ -101,7 +102,7 @@ reaches l d n h = elim (decide (leb n (length l))) [
 ]
 
 pub record ClusterIn (c : Cluster) : Type 0 where
-  pub order : c .order ≤ 14
+  pub order : c .order ≤ largest
   pub some : 1 ≤ c .tag .len
   pub short : c .tag .len ≤ 64
   pub printable : (i : ℕ) → i < c .tag .len → (33 ≤ getD (c .tag .bytes) i 0) × (getD (c .tag .bytes) i 0 ≤ 126)
@@ -111,12 +112,12 @@ pub cluster-in : (c : Cluster) → clusterOutside c ≡ false → ClusterIn c
 unfolding clusterOutside printableTag
 cluster-in c e =
     let t : Tag = c .tag in
-    let h = none-of (ltb 14 (c .order) ∷ not (between 1 64 (t .len)) ∷ not (printableTag t) ∷ []) e in
+    let h = none-of (ltb largest (c .order) ∷ not (between 1 64 (t .len)) ∷ not (printableTag t) ∷ []) e in
     let g = in-range 1 64 (t .len) (h .1 .0) in
     let printable : (i : ℕ) → i < t .len → (33 ≤ getD (t .bytes) i 0) × (getD (t .bytes) i 0 ≤ 126) =
     λ i l. between-true 33 126 (getD (t .bytes) i 0) (every-at _ (t .len) i (not-false (printableTag t) (h .1 .1 .0)) l) in
     record {
-      order = ltb-false 14 (c .order) (h .0);
+      order = ltb-false largest (c .order) (h .0);
       some = g .0;
       short = g .1;
       printable = printable;
@@ -148,7 +149,7 @@ parent-byte i p l e = elim (decide (eqb i 0)) [
 
 -- ---- the records of a site that the check accepts
 
-module _ (s : Site) (h : Sound s) where
+module _ (s : Site) (h : Unrefused s) where
   pub counts-in : HeaderIn (s .«cluster_count») (s .«flow_count»)
   counts-in = header-in 1 (s .«cluster_count») (s .«flow_count») (h .header) .1
 

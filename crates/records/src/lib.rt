@@ -1,10 +1,11 @@
 // The check of records that a caller hands in (document 01, "Refusal numbers": the writer's and the
 // planner's 4, 5 and 6).
+use model::Order;
+use model::wide;
 use site::Cluster;
 use site::Flow;
 use site::MOST_CLUSTERS;
 use site::MOST_FLOWS;
-use site::MOST_ORDER;
 use site::MOST_TAG;
 use site::MOST_TIME;
 use site::Site;
@@ -12,7 +13,6 @@ use site::Tag;
 use site::Verdict;
 use site::bad_parent;
 use site::same_tag;
-use site::wide;
 ghost use mathlib.Core.Path.{_≡_};
 ghost use Prim.Native.Nat.{_≤_};
 ghost use Rattle.site.specs.Records.{printableTag, clusterOutside, flowOutside};
@@ -43,7 +43,7 @@ fn outside_cluster(c: Cluster) -> bool
     ensures { λ r. ⌜ r ≡ clusterOutside c ⌝ }
 {
     let tag = c.tag;
-    if c.order > MOST_ORDER {
+    if c.order > Order::LARGEST {
         return true;
     }
     if tag.len < 1 {

@@ -16,7 +16,7 @@ use Rattle.site.specs.declared.Site.{Site}
 use Rattle.site.specs.Records.{absent, noFlow}
 use Rattle.site.specs.Reading.{accepted, readText}
 use Rattle.writer.specs.Text.{headerBytes, clusterBytes, flowBytes, textOf}
-use Rattle.records.specs.Checked.{checked-sound, counts-in, site-cluster-in, clusters-reach, flows-reach}
+use Rattle.records.specs.Checked.{checked-unrefused, counts-in, site-cluster-in, clusters-reach, flows-reach}
 use Rattle.roundtrip.specs.LinesBack.{header-size, cluster-size, flow-size}
 use Rattle.roundtrip.specs.WriteOfRead.{write-of-read}
 
@@ -46,7 +46,7 @@ unfolding textOf
 longest-site t s e =
     let n : ℕ = s .«cluster_count» in let f : ℕ = s .«flow_count» in
     let again = write-of-read t s e in
-    let sound = checked-sound s (again .0) in
+    let sound = checked-unrefused s (again .0) in
     let counts = counts-in s sound in
     let head : List ℕ = lineOf (headerBytes n f) in
     let clusters : List ℕ = linesOf clusterBytes (take n (s .clusters)) in

@@ -24,7 +24,7 @@ use Rattle.site.specs.ReadLaws.{rows-taken}
 use Rattle.records.specs.Check.{checked}
 use Rattle.writer.specs.Text.{headerBytes, clusterBytes, flowBytes, textOf}
 use Rattle.roundtrip.specs.Due.{cluster-due, flow-due, none-due}
-use Rattle.records.specs.Checked.{Sound, checked-sound, parent-byte, counts-in, cluster-tests, site-cluster-in, flow-test, site-flow-in}
+use Rattle.records.specs.Checked.{Unrefused, checked-unrefused, parent-byte, counts-in, cluster-tests, site-cluster-in, flow-test, site-flow-in}
 use Rattle.records.specs.Checked.{clusters-reach, flows-reach}
 use Rattle.roundtrip.specs.Kept.{keptFirst, kept, cluster-kept, flow-kept, kept-taken}
 use Rattle.roundtrip.specs.LinesBack.{rowOf, header-fields, header-taken, cluster-back, cluster-taken, flow-back, flow-taken}
@@ -44,7 +44,7 @@ line-read : (k : ℕ) (s s′ : Site) (bs rest : List ℕ) → refusalAt k s (ro
     → readRows k s (rows (lineOf bs ++ rest)) ≡ readRows (k + 1) s′ (rows rest)
 line-read k s s′ bs rest z e = rw (rows-line bs rest, rows-taken k s (rowOf bs) (rows rest) z, e)
 
-module _ (s : Site) (sound : Sound s) where
+module _ (s : Site) (sound : Unrefused s) where
   abbrev n : ℕ
   n = s .«cluster_count»
 
@@ -123,7 +123,7 @@ pub read-of-write : (s : Site) → checked s ≡ Accepted → readText (textOf s
 unfolding readText textOf kept
 read-of-write s e =
     let n : ℕ = s .«cluster_count» in let f : ℕ = s .«flow_count» in
-    let sound = checked-sound s e in
+    let sound = checked-unrefused s e in
     let flows : List ℕ = linesOf flowBytes (take f (s .flows)) in
     let start : 2 + n ≡ 2 + n + 0 = omega arith in
     header-read s sound (linesOf clusterBytes (take n (s .clusters)) ++ flows)

@@ -29,7 +29,7 @@ use Rattle.site.specs.Reading.{withHeader, withCluster, withFlow, refusalAt, en
 use Rattle.records.specs.Check.{clusterRefusal, flowRefusal, checked}
 use Rattle.writer.specs.Text.{headerBytes, clusterBytes, flowBytes, textOf}
 use Rattle.roundtrip.specs.Due.{cluster-due, flow-due, none-due}
-use Rattle.records.specs.Checked.{sound-checked, header-in, cluster-in}
+use Rattle.records.specs.Checked.{unrefused-checked, header-in, cluster-in}
 use Rattle.roundtrip.specs.LinesAgain.{joined, joined-none, joined-rows, header-again, cluster-again, flow-again, line-again}
 use Rattle.roundtrip.specs.LinesAgain.{taken-is-due, taken-length, taken-header, taken-cluster, taken-flow}
 
@@ -179,7 +179,7 @@ module _ (t : List ℕ) (s : Site) (r : Row) (rs : List Row) where
 all-read : (t : List ℕ) (s : Site) → SoFar t (s .«cluster_count») (s .«flow_count») s [] → (checked s ≡ Accepted) × (textOf s ≡ t)
 unfolding textOf textFirst
 all-read t s so = (
-  sound-checked s (record { header = so .header; clusters = so .clusters; flows = so .flows }),
+  unrefused-checked s (record { header = so .header; clusters = so .clusters; flows = so .flows }),
   sym (append-nil (textOf s)) ∙ rw joined-none at (so .text),
 )
 

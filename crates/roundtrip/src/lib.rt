@@ -1,3 +1,2 @@
 // Theorems alone, in specs/: ReadOfWrite, WriteOfRead, AcceptedExactly, LongestSite, FirstBytes,
 // Tags and EqualResults.
-pub fn nothing() {}

@@ -13,7 +13,7 @@ use Rattle.model.specs.CountingLaws.{passes-or-fails, and-both}
 use Rattle.model.specs.Orders.{largest, interval, isOrder, withinAll, permitted}
 use Rattle.model.specs.Plans.{fits, candidate, Outcome, planned, noFit, noPlacing, plan}
 use Rattle.model.specs.Relaxing.{solve}
-use Rattle.model.specs.SearchResult.{Unsolved, Found, Result, plan-result}
+use Rattle.model.specs.SearchResult.{Unsolved, LargestSolved, Result, plan-result}
 use Rattle.model.specs.Sequences.{sequence}
 use Rattle.model.specs.Sites.{Site, Sound}
 use Rattle.search.specs.Monotone.{interval-grows, unsolved-at-larger}
@@ -26,7 +26,7 @@ module _ (s : Site) where
       → plan s ≡ planned order (sequence s (at d))
   plan-found order d c e u = from-result (plan s) (plan-result s)
     where
-      same-order : (o : ℕ) (l : List ℕ) → Found s o l → o ≡ order
+      same-order : (o : ℕ) (l : List ℕ) → LargestSolved s o l → o ≡ order
       same-order o l f = elim (passes-or-fails (ltb o order)) [
         | inl t ↦ let n = f .largest-order order (ltb-true o order t) c in let z : _≡_ {A = ℕ} 0 1 = cc in absurd (omega arith)
         | inr t ↦ elim (passes-or-fails (ltb order o)) [

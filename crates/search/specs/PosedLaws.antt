@@ -10,7 +10,7 @@ use Rattle.model.specs.ConstraintLaws.{Within, constraints-within}
 use Rattle.model.specs.Counting.{Each}
 use Rattle.model.specs.CountingLaws.{each-map}
 use Rattle.model.specs.Orders.{interval}
-use Rattle.model.specs.Relaxing.{settle, depths, solve}
+use Rattle.model.specs.Relaxing.{settledWithin, depths, solve}
 use Rattle.model.specs.RelaxingLaws.{depths-length}
 use Rattle.model.specs.Sites.{Flow, Site, size, Sound}
 use Rattle.constraints.specs.Biases.{biased, settle-biased, descent-shallow, constraints-covered, site-entries-say}
@@ -18,7 +18,7 @@ use Rattle.constraints.specs.Entries.{meaning, siteEntries, limitsOf, Shallow}
 use Rattle.search.specs.Posed.{Posed}
 
 module _ (s : Site) (w : Sound s) (few : size s ≤ 64) where
-  bias-settles : (order : ℕ) → settle (size s) (map biased (constraints s order)) (depths s) ≡ solve s order
+  bias-settles : (order : ℕ) → settledWithin (size s) (map biased (constraints s order)) (depths s) ≡ solve s order
   unfolding solve
   bias-settles order = settle-biased (size s) (constraints s order) (depths s) (constraints-covered s w few order)
 
@@ -66,7 +66,7 @@ module _ (s : Site) (ps ss ts ds es ls : List ℕ) (w : Posed s ps ss ts ds es l
     list-within n f = rw (f, entries-say) (each-map biased (Within (size s)) (constraints s order) (constraints-within s order (w .sound)))
 
     -- from the depths on they settle as the site's constraints do
-    pub list-settles : (counts : List ℕ) → counts ≡ ls → settle (length counts) list counts ≡ solve s order
+    pub list-settles : (counts : List ℕ) → counts ≡ ls → settledWithin (length counts) list counts ≡ solve s order
     list-settles counts f = rw (f, w .levels-are, depths-length s, entries-say) (bias-settles s (w .sound) (w .few) order)
 
 -- as many distances as there are depths, copied over

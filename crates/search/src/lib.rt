@@ -9,7 +9,7 @@ ghost use mathlib.Core.Option.{none};
 ghost use Prim.Native.Nat.{_≤_};
 ghost use lib.Dec.{leb};
 ghost use lib.ListN.{length};
-ghost use Rattle.model.specs.Orders.{interval, permitted};
+ghost use Rattle.model.specs.Orders.{largest, interval, permitted};
 ghost use Rattle.model.specs.Plans.{plan};
 ghost use Rattle.model.specs.Relaxing.{solve};
 ghost use Rattle.model.specs.Sites.{Site};
@@ -26,7 +26,7 @@ pub enum Found {
 
 // Whether an order is permitted by the shortest period and the sum of the portions fits it.
 fn is_candidate(order: Order, shortest: u32, total: u32) -> bool
-    requires { ⌜ order .number ≤ 14 ⌝ }
+    requires { ⌜ order .number ≤ largest ⌝ }
     ensures { λ r. ⌜ r ≡ (permitted (order .number) (shortest ∷ []) && leb total (interval (order .number))) ⌝ }
 {
     let periods = [shortest];
@@ -79,7 +79,7 @@ fn settle_at(
     depths: &[u8],
     counts: &mut [u8],
 ) -> Settling
-    requires { ⌜ order .number ≤ 14 ⌝ }
+    requires { ⌜ order .number ≤ largest ⌝ }
     requires { ⌜ (length (now counts) ≡ length (now parents)) × ((s : Site) × Posed s (now parents) (now sources) (now sinks) (now descents) (now deadlines) (now depths)) ⌝ }
     ensures { λ r. ⌜ ((s : Site) → Posed s (now (parents .entry)) (now (sources .entry)) (now (sinks .entry)) (now (descents .entry)) (now (deadlines .entry)) (now (depths .entry)) → solve s (order .number) ≡ settledAs r (now (counts .exit))) ⌝ }
 {
@@ -101,7 +101,7 @@ fn probe(
     depths: &[u8],
     counts: &mut [u8],
 ) -> Settling
-    requires { ⌜ order .number ≤ 14 ⌝ }
+    requires { ⌜ order .number ≤ largest ⌝ }
     requires { ⌜ (length (now counts) ≡ length (now parents)) × ((s : Site) × Posed s (now parents) (now sources) (now sinks) (now descents) (now deadlines) (now depths)) ⌝ }
     ensures { λ r. ⌜ ((s : Site) → Posed s (now (parents .entry)) (now (sources .entry)) (now (sinks .entry)) (now (descents .entry)) (now (deadlines .entry)) (now (depths .entry)) → (solve s (order .number) ≡ settledAs r (now (counts .exit))) × (solve s (order .number) ≡ none → now (counts .exit) ≡ now (counts .entry))) ⌝ }
 {

@@ -8,8 +8,8 @@ use lib.Dec.{leb, ltb, eqb}
 use lib.ListN.{length, take, drop}
 use Rattle.model.specs.Counting.{at, bit, member, sumBelow}
 use Rattle.model.specs.Sequences.{isParent, nextOnes}
-use Rattle.sequence.specs.declared.Found.{Found}
-use Rattle.sequence.specs.declared.Found.the-variants.{At, Nothing}
+use Rattle.sequence.specs.declared.Next.{Next}
+use Rattle.sequence.specs.declared.Next.the-variants.{At, Nothing}
 
 -- a parent and a count for each of at most 64 clusters
 pub record Sized (parents counts : List ℕ) : Type 0 where
@@ -52,7 +52,7 @@ pub record Held (size : ℕ) (parent N : ℕ → ℕ) (placed held : List ℕ) :
   pub each : (c : ℕ) → c < size → at held c ≡ holding size parent N placed c
 
 -- the lowest-numbered cluster that nothing holds back, or that there is none
-abbrev pub LowestFree : ℕ → List ℕ → Found → Type 0
+abbrev pub LowestFree : ℕ → List ℕ → Next → Type 0
 LowestFree size held (At x) = (x < size) × (at held x ≡ 0) × ((c : ℕ) → c < x → at held c ≡ 0 → ⊥)
 LowestFree size held Nothing = (c : ℕ) → c < size → at held c ≡ 0 → ⊥
 

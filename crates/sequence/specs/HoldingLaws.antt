@@ -12,10 +12,10 @@ use lib.Seq.{getD-set-same, getD-set-other}
 use mir.Val.{boolByte}
 use borrow.Author.Count.{below-more}
 use borrow.Author.Tests.{ltb-false, lt-ltb, eqb-true, eqb-false, eq-eqb, ne-eqb, not-true}
-use Rattle.model.specs.Counting.{at, bit, member, lowest}
+use Rattle.model.specs.Counting.{at, bit, member, leastWhere}
 use Rattle.model.specs.CountingLaws.{passes-or-fails, and-both, Lowest, lowest-is, lowest-found}
 use Rattle.model.specs.Sequences.{ready, next}
-use Rattle.sequence.specs.declared.Found.the-variants.{At, Nothing}
+use Rattle.sequence.specs.declared.Next.the-variants.{At, Nothing}
 use Rattle.sequence.specs.Holding.{parentFirst, childFirst, holds, waiting, holding, Held, LowestFree, Lowered, Releasing, Released}
 use Rattle.sequence.specs.WaitingLaws.{none-waited-for, ready-waits-for-none, waiting-falls}
 
@@ -133,7 +133,7 @@ module _ (size : ℕ) (parent N : ℕ → ℕ) (placed held : List ℕ) (h : Hel
 
   pub none-comes-next : LowestFree size held Nothing → next size parent N placed ≡ none
   unfolding next
-  none-comes-next f = no-other (lowest candidate 0 size) (lowest-is candidate 0 size)
+  none-comes-next f = no-other (leastWhere candidate 0 size) (lowest-is candidate 0 size)
     where
       no-other : (r : Option ℕ) → Lowest candidate 0 size r → r ≡ none
       no-other none k = refl

@@ -8,7 +8,7 @@ use lib.ListN.{length, take, drop, set, length-set, take-append-drop}
 use lib.Seq.{take-suc-set, drop-set-lt, length-take-le, drop-drop}
 use Rattle.model.specs.Sequences.{nextOnes}
 use Rattle.model.specs.SequenceLaws.{next-comes-first}
-use Rattle.sequence.specs.declared.Found.the-variants.{At, Nothing}
+use Rattle.sequence.specs.declared.Next.the-variants.{At, Nothing}
 use Rattle.sequence.specs.Holding.{Held, LowestFree, Released, inOrder, Sequenced}
 use Rattle.sequence.specs.HoldingLaws.{free-comes-next, none-comes-next, released-holds}
 

@@ -2,6 +2,7 @@
 // lowest-numbered cluster all of whose required predecessors are placed comes next. How much holds
 // each cluster back is counted once, in a pass over the clusters and their parents, and lowered as
 // clusters are placed, so that n clusters take about 2 * n * n steps.
+use model::wide;
 ghost use mathlib.Core.Path.{_≡_};
 ghost use mathlib.Core.List.{[]};
 ghost use Prim.Native.Nat.{_≤_, _<_};
@@ -10,15 +11,9 @@ ghost use Rattle.model.specs.Counting.{at, bit};
 ghost use Rattle.sequence.specs.Holding.{Sized, laterOf, parentFirst, childFirst, Held, LowestFree, Lowerable, Lowered, Releasing, Released, Sequenced};
 
 // The cluster that comes next, if one does.
-enum Found {
+enum Next {
     At(usize),
     Nothing,
-}
-
-fn wide(b: u8) -> usize
-    ensures { λ r. ⌜ r ≡ b ⌝ }
-{
-    b as usize
 }
 
 // The one of c and its parent p that comes after the other: c where the count grows, and p where it
@@ -50,18 +45,18 @@ fn held_at_first(parents: &[u8], counts: &[u8]) -> [u8; 64]
 }
 
 // The lowest-numbered of n clusters that nothing holds back.
-fn next_free(held: &[u8; 64], n: usize) -> Found
+fn next_free(held: &[u8; 64], n: usize) -> Next
     requires { ⌜ n ≤ 64 ⌝ }
     ensures { λ r. ⌜ LowestFree n (now (held .entry)) r ⌝ }
 {
     let mut c: usize = 0;
     while c < n {
         if held[c] == 0 {
-            return Found::At(c);
+            return Next::At(c);
         }
         c += 1;
     }
-    Found::Nothing
+    Next::Nothing
 }
 
 // The children of x that come after it no longer wait for it.
@@ -109,7 +104,7 @@ pub fn sequence(parents: &[u8], counts: &[u8], placed: &mut [u8]) -> usize
     let mut held = held_at_first(parents, counts);
     let mut k: usize = 0;
     while k < parents.len() {
-        let Found::At(x) = next_free(&held, parents.len()) else {
+        let Next::At(x) = next_free(&held, parents.len()) else {
             return k;
         };
         placed[k] = x as u8;

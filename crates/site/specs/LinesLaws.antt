@@ -6,6 +6,7 @@ use Prim.Native.Nat.{ℕ, _+_, _≤_}
 use native.Mathlib.Omega.{arith}
 use lib.Dec.{ltb}
 use lib.ListN.{replicate, length-replicate}
+use Rattle.model.specs.Orders.{largest}
 use Rattle.hexline.specs.Loops.{every-same, filled, filled-at}
 use Rattle.hexline.specs.Digits.{between, byteAt}
 use Rattle.hexline.specs.Lines.{anyOf}
@@ -27,7 +28,7 @@ printable-read l n h =
 
 -- the tests of the cluster that a line spells, by the line's bytes
 module _ (l : List ℕ) where
-  pub cluster-ranges : clusterOutside (clusterOf l) ≡ anyOf (ltb 14 (byteAt l 2) ∷ not (between 1 64 (byteAt l 3)) ∷ not (printableTag (tagAt l 4 (byteAt l 3))) ∷ [])
+  pub cluster-ranges : clusterOutside (clusterOf l) ≡ anyOf (ltb largest (byteAt l 2) ∷ not (between 1 64 (byteAt l 3)) ∷ not (printableTag (tagAt l 4 (byteAt l 3))) ∷ [])
   unfolding clusterOutside clusterOf tagAt
   cluster-ranges = refl
 

@@ -8,6 +8,7 @@ use native.Mathlib.Omega.{arith}
 use lib.Dec.{ltb, eqb}
 use lib.ListN.{length}
 use borrow.Author.Tests.{ne-eqb, eqb-true, eqb-false, ltb-false, not-false}
+use Rattle.model.specs.Orders.{largest}
 use Rattle.hexline.specs.Loops.{decide}
 use Rattle.hexline.specs.Digits.{between, byteAt}
 use Rattle.hexline.specs.DigitLaws.{between-true}
@@ -140,7 +141,7 @@ module _ (k n f : ℕ) (cs : List Cluster) (r : Row) where
         | cluster after within d ↦
             let e : ClusterLine (byteAt l 1) (byteAt l 2) 4 (byteAt l 3) ≡ ClusterLine p o a m = rw d at (h .1) in
             let long : length l / 2 ≡ 4 + byteAt l 3 = eqb-true _ _ (not-false (eqb (length l / 2) (4 + byteAt l 3)) (rw d at (t .1 .1 .0))) in
-            let v = none-of (ltb 14 (byteAt l 2) ∷ not (between 1 64 (byteAt l 3)) ∷ not (printableTag (tagAt l 4 (byteAt l 3))) ∷ []) (rw d at (t .1 .1 .1 .0)) in
+            let v = none-of (ltb largest (byteAt l 2) ∷ not (between 1 64 (byteAt l 3)) ∷ not (printableTag (tagAt l 4 (byteAt l 3))) ∷ []) (rw d at (t .1 .1 .1 .0)) in
             let small = between-true 1 64 (byteAt l 3) (not-false (between 1 64 (byteAt l 3)) (v .1 .0)) in
             let x : byteAt l 1 ≡ p = cc in
             let y : byteAt l 2 ≡ o = cc in

@@ -4,6 +4,7 @@ use mathlib.Core.List.{List, [], _∷_}
 use Prim.Native.Nat.{ℕ}
 use lib.ListN.{getD, replicate}
 use lib.Dec.{leb, ltb, eqb}
+use Rattle.model.specs.Orders.{largest}
 use Rattle.hexline.specs.Loops.{every}
 use Rattle.hexline.specs.Digits.{between}
 use Rattle.hexline.specs.Lines.{anyOf}
@@ -43,7 +44,7 @@ headerOutside v n f = anyOf (not (eqb v 1) ∷ not (between 1 64 n) ∷ ltb 128 
 
 -- 4: the order is not 0 to 14, the tag length not 1 to 64, or a tag byte not 21 to 7E
 unfoldable pub clusterOutside : Cluster → Bool
-clusterOutside c = anyOf (ltb 14 (c .order) ∷ not (between 1 64 (c .tag .len)) ∷ not (printableTag (c .tag)) ∷ [])
+clusterOutside c = anyOf (ltb largest (c .order) ∷ not (between 1 64 (c .tag .len)) ∷ not (printableTag (c .tag)) ∷ [])
 
 -- 4: of n clusters the source or the sink is none, or the period or the deadline is not 1 to 1,000,000,000
 unfoldable pub flowOutside : ℕ → Flow → Bool

@@ -9,8 +9,6 @@ pub use line::read_line;
 pub use reader::read;
 pub use tags::counted;
 pub use tags::same_tag;
-ghost use mathlib.Core.Path.{_≡_};
-ghost use Prim.Native.Nat.{_<_};
 
 // The limits of document 01.
 pub const MOST_CLUSTERS: u8 = 64;
@@ -18,8 +16,6 @@ pub const MOST_CLUSTERS: u8 = 64;
 pub const MOST_FLOWS: u8 = 128;
 
 pub const MOST_TAG: u8 = 64;
-
-pub const MOST_ORDER: u8 = 14;
 
 pub const MOST_TIME: u32 = 1000000000;
 
@@ -89,11 +85,4 @@ pub enum Verdict {
 pub struct Reading {
     pub site: Site,
     pub verdict: Verdict,
-}
-
-// A byte as an index.
-pub fn wide(x: u8) -> usize
-    ensures { λ r. ⌜ (r ≡ x) × (r < 256) ⌝ }
-{
-    x as usize
 }

@@ -3,10 +3,10 @@ use crate::Entry;
 use crate::MOST_CLUSTERS;
 use crate::MOST_DIGITS;
 use crate::MOST_FLOWS;
-use crate::MOST_ORDER;
 use crate::MOST_TAG;
 use crate::MOST_TIME;
-use crate::wide;
+use model::Order;
+use model::wide;
 ghost use mathlib.Core.Path.{_≡_};
 ghost use Prim.Native.Nat.{_+_, _*_, _≤_, _<_};
 ghost use lib.ListN.{length};
@@ -103,7 +103,7 @@ fn cluster_line(line: &[u8], k: usize) -> Entry
         return Entry::Refused { number: 3, line: k };
     }
     let order = hexline::byte_at(line, 2);
-    if order > MOST_ORDER {
+    if order > Order::LARGEST {
         return Entry::Refused { number: 4, line: k };
     }
     if len < 1 {

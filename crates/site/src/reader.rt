@@ -10,7 +10,7 @@ use crate::line::due_at;
 use crate::line::read_line;
 use crate::tags::same_tag;
 use crate::tags::tag_at;
-use crate::wide;
+use model::wide;
 ghost use mathlib.Core.Path.{_≡_};
 ghost use Rattle.site.specs.Records.{noSite};
 ghost use Rattle.site.specs.Reading.{accepted as takenAs, refused as refusedAs, readText};

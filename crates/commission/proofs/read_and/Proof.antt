@@ -14,8 +14,8 @@ read-requires c κs = search needs
 enum-known-verdict : tie.Need-enum-known-verdict
 enum-known-verdict c = search needs
 
-refusal-requires : tie.Need-refusal-requires
-refusal-requires c κs = refused-line-small (c .before .before .before .before .before .before .args .text .now) (c .before .before .before .read .result) (c .before .before .before .read .ensures) _ _ (c .before .verdict .given .1)
+refusal-number-requires : tie.Need-refusal-number-requires
+refusal-number-requires c κs = refused-line-small (c .before .before .before .before .before .before .args .text .now) (c .before .before .before .read .result) (c .before .before .before .read .ensures) _ _ (c .before .verdict .given .1)
 
 enum-told : tie.Need-enum-told
 enum-told c = search needs
@@ -35,8 +35,8 @@ cast-result c =
 enum-known-answer-2 : tie.Need-enum-known-answer-2
 enum-known-answer-2 c = search needs
 
-refusal-requires-2 : tie.Need-refusal-requires-2
-refusal-requires-2 c κs =
+refusal-number-requires-2 : tie.Need-refusal-number-requires-2
+refusal-number-requires-2 c κs =
     let read = c .before .before .before .before .before .before .before .before .before .before .read in
     subst SmallPlan (sym (c .before .before .before .before .before .plan-accepted .ensures .0) ∙ c .before .answer2 .given .1) (plan-small (c .before .before .before .before .before .before .before .before .before .before .before .before .before .args .text .now) (read .result) (read .ensures) (c .before .before .before .before .before .before .before .before .enum-told .given .1) _)
 
@@ -55,8 +55,8 @@ cast-result-2 c =
 enum-known-written-2 : tie.Need-enum-known-written-2
 enum-known-written-2 c = search needs
 
-refusal-requires-3 : tie.Need-refusal-requires-3
-refusal-requires-3 c κs =
+refusal-number-requires-3 : tie.Need-refusal-number-requires-3
+refusal-number-requires-3 c κs =
     let read = c .before .before .before .before .before .before .before .before .before .before .read in
     subst SmallWriting (sym (c .before .before .before .before .before .put-site .ensures .0) ∙ c .before .written2 .given .1) (written-small (c .before .before .before .before .before .before .before .before .before .before .before .before .before .args .text .now) (read .result) (read .ensures) (c .before .before .before .before .before .before .before .before .enum-told .given .1) _)
 
@@ -65,7 +65,7 @@ returns c =
     let read = c .before .before .before .before .read in
     let planned = plan-refused (c .before .before .before .before .before .before .before .args .text .now) (read .result) (read .ensures) _ _ (c .before .before .verdict .given .1) (c .before .before .before .before .before .before .before .args .room .now) in
     let written = rewrite-refused (c .before .before .before .before .before .before .before .args .text .now) (read .result) (read .ensures) _ _ (c .before .before .verdict .given .1) (c .before .before .before .before .before .before .before .args .room .now) in
-    (c .refusal .ensures ∙ either-way (c .before .before .before .before .before .before .before .args .planning) _ _ _ (planned .0) (written .0), either-way (c .before .before .before .before .before .before .before .args .planning) _ _ _ (planned .1) (written .1))
+    (c .refusal-number .ensures ∙ either-way (c .before .before .before .before .before .before .before .args .planning) _ _ _ (planned .0) (written .0), either-way (c .before .before .before .before .before .before .before .args .planning) _ _ _ (planned .1) (written .1))
 
 same-length : tie.Need-same-length
 same-length c = c .before .before .before .before .before .plan-accepted .kept .1 .0
@@ -85,7 +85,7 @@ unfolding plannedNumber
 returns-3 c =
     let read = c .before .before .before .before .before .before .before .before .before .before .before .read in
     let is = plan-taken (c .before .before .before .before .before .before .before .before .before .before .before .before .before .before .args .text .now) (read .result) (read .ensures) (c .before .before .before .before .before .before .before .before .before .enum-told .given .1) _ in
-    rw (c .before .before .before .before .before .before .before .before .if1 .taken) (c .refusal2 .ensures ∙ ap plannedNumber (sym (c .before .before .answer2 .given .1) ∙ c .before .before .before .before .before .before .plan-accepted .ensures .0) ∙ is .0, c .before .before .before .before .before .before .plan-accepted .ensures .1 ∙ is .1)
+    rw (c .before .before .before .before .before .before .before .before .if1 .taken) (c .refusal-number2 .ensures ∙ ap plannedNumber (sym (c .before .before .answer2 .given .1) ∙ c .before .before .before .before .before .before .plan-accepted .ensures .0) ∙ is .0, c .before .before .before .before .before .before .plan-accepted .ensures .1 ∙ is .1)
 
 same-length-3 : tie.Need-same-length-3
 same-length-3 c = c .before .before .before .before .before .put-site .kept .0
@@ -105,7 +105,7 @@ unfolding writtenNumber
 returns-5 c =
     let read = c .before .before .before .before .before .before .before .before .before .before .before .read in
     let is = rewrite-taken (c .before .before .before .before .before .before .before .before .before .before .before .before .before .before .args .text .now) (read .result) (read .ensures) (c .before .before .before .before .before .before .before .before .before .enum-told .given .1) _ in
-    rw (c .before .before .before .before .before .before .before .before .if1 .left) (c .refusal3 .ensures ∙ ap writtenNumber (sym (c .before .before .written2 .given .1) ∙ c .before .before .before .before .before .before .put-site .ensures .0) ∙ is .0, c .before .before .before .before .before .before .put-site .ensures .1 ∙ is .1)
+    rw (c .before .before .before .before .before .before .before .before .if1 .left) (c .refusal-number3 .ensures ∙ ap writtenNumber (sym (c .before .before .written2 .given .1) ∙ c .before .before .before .before .before .before .put-site .ensures .0) ∙ is .0, c .before .before .before .before .before .before .put-site .ensures .1 ∙ is .1)
 
 pub read-and-spec : {M : Type 1} → statement M
 read-and-spec =
@@ -113,18 +113,18 @@ read-and-spec =
     (tie.spec
     read-requires
     enum-known-verdict
-    refusal-requires
+    refusal-number-requires
     enum-told
     plan-accepted-requires
     enum-known-answer
     cast-result
     enum-known-answer-2
-    refusal-requires-2
+    refusal-number-requires-2
     put-site-requires
     enum-known-written
     cast-result-2
     enum-known-written-2
-    refusal-requires-3
+    refusal-number-requires-3
     returns
     same-length
     returns-2

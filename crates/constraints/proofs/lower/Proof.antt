@@ -11,7 +11,7 @@ use Rattle.constraints.proofs.lower.Statement.{statement}
 use Rattle.constraints.proofs.lower.Tie as tie
 
 abbrev constraint : tie.Start → Entry
-constraint start = entry (start .args .from) (start .args .to) (start .args .limit)
+constraint start = entry (start .args .from) (start .args .to) (start .args .credit)
 
 abbrev distances : tie.Start → List ℕ
 distances start = start .args .distances .now

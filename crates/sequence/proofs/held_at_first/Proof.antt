@@ -56,7 +56,7 @@ loop-less c = search needs
 loop-again : tie.Need-loop-again Inv-loop μ-loop
 loop-again c =
     let turn = c .before .before .before .before .loop in
-    let parent = c .before .wide .ensures in (
+    let parent = c .before .wide .ensures .0 in (
       search needs,
       λ h. omega arith,
       ⊎-elim

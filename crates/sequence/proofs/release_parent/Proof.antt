@@ -21,7 +21,7 @@ wide-requires c κs = search needs
 
 -- x has its parent among the clusters
 there : (c : tie.Then1) → let args = c .before .before .before .before .before .args in (0 < args .x) × (at (args .parents .now) (args .x) < length (args .parents .now))
-there c = let both = and-both _ _ (rw (c .before .wide .ensures) at (c .if1 .taken)) in (ltb-true _ _ (both .0), ltb-true _ _ (both .1))
+there c = let both = and-both _ _ (rw (c .before .wide .ensures .0) at (c .if1 .taken)) in (ltb-true _ _ (both .0), ltb-true _ _ (both .1))
 
 -- the entry of the parent counts x where it waits for x
 lowerable : (c : tie.Then1)
@@ -37,19 +37,19 @@ shared-slice-read-held : tie.Need-shared-slice-read-held
 shared-slice-read-held c = search needs
 
 shared-slice-read-held-2 : tie.Need-shared-slice-read-held-2
-shared-slice-read-held-2 c = omega (arith, there (c .before .before) .1, c .before .before .before .wide .ensures)
+shared-slice-read-held-2 c = omega (arith, there (c .before .before) .1, c .before .before .before .wide .ensures .0)
 
 cast-held : tie.Need-cast-held
 cast-held c = search needs
 
 element-copy-out-held : tie.Need-element-copy-out-held
-element-copy-out-held c = omega (arith, there (c .before .before) .1, c .before .before .before .wide .ensures)
+element-copy-out-held c = omega (arith, there (c .before .before) .1, c .before .before .before .wide .ensures .0)
 
 sub-held : tie.Need-sub-held
-sub-held c = rw (c .before .before .before .before .wide .ensures) (lowerable (c .before .before .before))
+sub-held c = rw (c .before .before .before .before .wide .ensures .0) (lowerable (c .before .before .before))
 
 element-write-held : tie.Need-element-write-held
-element-write-held c = omega (arith, there (c .before .before .before) .1, c .before .before .before .before .wide .ensures)
+element-write-held c = omega (arith, there (c .before .before .before) .1, c .before .before .before .before .wide .ensures .0)
 
 returns : tie.Need-returns
 returns c =
@@ -57,7 +57,7 @@ returns c =
     let parent = at (start .args .parents .now) in
     let N = at (start .args .counts .now) in
     let w = there (c .before .before .before) in
-    rw (c .before .before .before .before .wide .ensures)
+    rw (c .before .before .before .before .wide .ensures .0)
     (lowered-one _ _ _ (start .pre .2 .room) _ _ (omega (arith, w .1)) (as-child parent N _ (w .0)) (lowerable (c .before .before .before)) (child-of-one parent N _))
 
 returns-2 : tie.Need-returns-2
@@ -65,7 +65,7 @@ returns-2 c =
     let start = c .before .before .before .before .before in
     let args = start .args in
     lowered-none _ _ _ (start .pre .2 .room)
-    (child-of-none (at (args .parents .now)) (at (args .counts .now)) (args .x) _ (rw (c .before .wide .ensures) at (c .if1 .left)))
+    (child-of-none (at (args .parents .now)) (at (args .counts .now)) (args .x) _ (rw (c .before .wide .ensures .0) at (c .if1 .left)))
 
 pub release-parent-spec : {M : Type 1} → statement M
 release-parent-spec =

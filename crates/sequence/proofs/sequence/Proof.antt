@@ -5,7 +5,7 @@ use native.Mathlib.Omega.{arith}
 use lib.ListN.{length}
 use borrow.Author.Needs.{needs}
 use Rattle.model.specs.Counting.{at}
-use Rattle.sequence.specs.declared.Found.the-variants.{At}
+use Rattle.sequence.specs.declared.Next.the-variants.{At}
 use Rattle.sequence.specs.Holding.{LowestFree}
 use Rattle.sequence.specs.HoldingLaws.{free-releases}
 use Rattle.sequence.specs.Running.{Running, running-at-first, running-on, all-placed, none-free}

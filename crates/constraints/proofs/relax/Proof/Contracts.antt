@@ -69,7 +69,7 @@ module _ (z : Passed) where
 
   -- what `lower` is given at an entry, under the name δ of the loan, and the type of the last values of its parameters
   abbrev pub given : Entry → GName → List ℕ → ℕ × (ℕ × (ℕ × (RefT (List ℕ) × Unit {0})))
-  given e δ d = (e .from, (e .to, (e .limit, (distances z δ d, tt))))
+  given e δ d = (e .from, (e .to, (e .credit, (distances z δ d, tt))))
 
 abbrev pub Lasts : Type 0
 Lasts = Unit {0} × (Unit {0} × (Unit {0} × (List ℕ × Unit {0})))
@@ -95,12 +95,12 @@ module _ {M : Type 1} (𝓤 : URA M) (H : Heap 𝓤) (A : Atoms 𝓤) (at-mem : 
 
     -- `lower` is called at the entry e, with the distances d lent again for the lifetime ν under the name δ
     abbrev pub to-lower : Entry → List ℕ → ℕ → GName → Lower .Ghost
-    to-lower e d ν δ = (((ν ∷ [], tt), (fullShare, tt), tt, given z e δ d, (vint w32 (e .from) ∷ [], (vint w32 (e .to) ∷ [], (vint w32 (e .limit) ∷ [], (distancesV z d ∷ [], tt))))), tt)
+    to-lower e d ν δ = (((ν ∷ [], tt), (fullShare, tt), tt, given z e δ d, (vint w32 (e .from) ∷ [], (vint w32 (e .to) ∷ [], (vint w32 (e .credit) ∷ [], (distancesV z d ∷ [], tt))))), tt)
 
     pub goes : (W : Given 𝓤 H A) (e : Entry) (d : List ℕ) (ν : ℕ) (δ : GName) → Is entry.the-row e (entry-laws.lowered e ∷ []) → Within (length d) (meaning e)
         → ent 𝓤 (sep 𝓤 (A .lft (ν ∷ []) fullShare) (sem 𝓤 H A (Owns u8 (z .b′) (z .o′) (named 0) (ν ∷ []) δ d))) (Lower .pre (to-lower e d ν δ))
     goes W e d ν δ made within =
         let fields = StructLaws.owed entry.the-type entry-laws.the-laws e _ made in
         qed W (‵ (flft (ν ∷ []) fullShare) ∷ ‵ (Owns u8 (z .b′) (z .o′) (named 0) (ν ∷ []) δ d) ∷ []) ∵ says ! within $ nothing ! $ move ! (1 ∷ 0 ∷ []) $ join ! $ frame ! $
-        nothing ! $ move ! (1 ∷ 0 ∷ []) $ fjoin ! $ owned ! u32 (Is u32) (uint-makes 𝓤 H A W w32) (e .limit) _ (fields .1 .1 .0) $ fjoin ! $
+        nothing ! $ move ! (1 ∷ 0 ∷ []) $ fjoin ! $ owned ! u32 (Is u32) (uint-makes 𝓤 H A W w32) (e .credit) _ (fields .1 .1 .0) $ fjoin ! $
         owned ! u32 (Is u32) (uint-makes 𝓤 H A W w32) (e .to) _ (fields .1 .0) $ fjoin ! $ owned ! u32 (Is u32) (uint-makes 𝓤 H A W w32) (e .from) _ (fields .0) $ fjoin ! $ done !

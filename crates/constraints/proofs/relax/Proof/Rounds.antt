@@ -12,7 +12,7 @@ use lib.ListN.{length, getD, drop, drop-of-length-le}
 use lib.Seq.{drop-cons}
 use lib.WfN.{Nat·lt-wfRel}
 use Rattle.model.specs.Constraints.{Constraint}
-use Rattle.model.specs.Relaxing.{settle}
+use Rattle.model.specs.Relaxing.{settledWithin}
 use Rattle.model.specs.RelaxingLaws.{Midway, midway-start, midway-keeps, midway-lowers, midway-refuses, unchanged-settles, changed-goes-on}
 use Rattle.constraints.specs.declared.Constraint.{Constraint as Entry}
 use Rattle.constraints.specs.declared.Settling.{Settling}
@@ -50,7 +50,7 @@ module _ (ys : List Entry) (d₀ : List ℕ) where
 
   -- what the contract says of a verdict and the last distances
   abbrev pub Says : Settling → List ℕ → Type 0
-  Says verdict d = (settle (length d₀) all d₀ ≡ settledAs verdict d) × (length d ≡ length d₀)
+  Says verdict d = (settledWithin (length d₀) all d₀ ≡ settledAs verdict d) × (length d ≡ length d₀)
 
   -- before a round
   pub record Round : Type 0 where
@@ -58,7 +58,7 @@ module _ (ys : List Entry) (d₀ : List ℕ) where
     pub start : List ℕ
     pub at-most : left ≤ length d₀
     pub as-long : length start ≡ length d₀
-    pub goes-on : settle left all start ≡ settle (length d₀) all d₀
+    pub goes-on : settledWithin left all start ≡ settledWithin (length d₀) all d₀
 
   abbrev pub Fewer : Round → Round → Type 0
   Fewer next round = next .left < round .left
@@ -71,11 +71,11 @@ module _ (ys : List Entry) (d₀ : List ℕ) where
 
   -- no round is left
   pub none-left : (round : Round) → round .left ≡ 0 → Says NegativeLoop (round .start)
-  unfolding settle settledAs
+  unfolding settledWithin settledAs
   none-left round none = (sym (round .goes-on) ∙ rw none, round .as-long)
 
   module _ (round : Round) where
-    pub so-far : 0 < round .left → settle (suc (round .left - 1)) all (round .start) ≡ settle (length d₀) all d₀
+    pub so-far : 0 < round .left → settledWithin (suc (round .left - 1)) all (round .start) ≡ settledWithin (length d₀) all d₀
     so-far due = let before : round .left ≡ suc (round .left - 1) = omega arith in rw (sym before) (round .goes-on)
 
     -- before the constraint at a place, or behind the last
@@ -137,7 +137,7 @@ module _ (ys : List Entry) (d₀ : List ℕ) where
         unfolding settledAs
         unchanged-says same = (sym (so-far due) ∙ unchanged-settles (round .left - 1) (rw (is-false (turn .changed) same) at all-relaxed), turn .kept)
 
-        pub next-goes-on : T (not (not (turn .changed))) → settle (round .left - 1) all (turn .distances) ≡ settle (length d₀) all d₀
+        pub next-goes-on : T (not (not (turn .changed))) → settledWithin (round .left - 1) all (turn .distances) ≡ settledWithin (length d₀) all d₀
         next-goes-on changed = sym (changed-goes-on (round .left - 1) (rw (is-true (turn .changed) changed) at all-relaxed)) ∙ so-far due
 
         abbrev pub next-round : T (not (not (turn .changed))) → Round

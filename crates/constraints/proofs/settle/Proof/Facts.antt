@@ -6,7 +6,7 @@ use native.Mathlib.Omega.{arith}
 use lib.ListN.{length, drop, replicate, length-replicate, length-append, length-drop}
 use Rattle.model.specs.ConstraintLaws.{Within}
 use Rattle.model.specs.Counting.{Each}
-use Rattle.model.specs.Relaxing.{settle as settled}
+use Rattle.model.specs.Relaxing.{settledWithin}
 use Rattle.constraints.specs.Entries.{blank, meaning, siteEntries}
 use Rattle.constraints.specs.EntryLaws.{site-entries-length}
 use Rattle.constraints.specs.Steps.{settledAs}
@@ -26,7 +26,7 @@ Obeyable es d = Each (Within (length d)) (map meaning es)
 
 -- what is ensured of the verdict and of the last distances, over the entries es
 abbrev pub Settles : List Constraint → List ℕ → Settling → List ℕ → Type 0
-Settles es d v d′ = (settled (length d) (map meaning es) d ≡ settledAs v d′) × (length d′ ≡ length d)
+Settles es d v d′ = (settledWithin (length d) (map meaning es) d ≡ settledAs v d′) × (length d′ ≡ length d)
 
 -- how many entries a site has, and the blanks that stay behind them
 abbrev pub count : List ℕ → List ℕ → ℕ

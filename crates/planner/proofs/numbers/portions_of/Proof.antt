@@ -4,7 +4,7 @@ use Prim.Native.Nat.{ℕ, _*_, _-_, _≤_}
 use native.Mathlib.Omega.{arith}
 use lib.ListN.{getD}
 use Rattle.model.specs.Counting.{sumBelow}
-use Rattle.model.specs.Orders.{portion, lengthAt}
+use Rattle.model.specs.Orders.{largest, portion, lengthAt}
 use Rattle.model.specs.OrderLaws.{order-has-length, symbols-bounded}
 use Rattle.site.specs.Records.{absent}
 use Rattle.planner.specs.NumberLaws.{sum-next}
@@ -25,7 +25,7 @@ module _ (c : tie.After-portion Inv-loop μ-loop) where
   abbrev order : ℕ
   order = getD (was .before .args .t1) (was .loop .i) absent .order
 
-  is-order : order ≤ 14
+  is-order : order ≤ largest
   is-order = was .before .pre .1 (was .loop .i) (c .before .before .before .loop-test .taken)
 
   portion-here : c .portion .result ≡ portion order
