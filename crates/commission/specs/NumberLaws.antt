@@ -1,6 +1,5 @@
 -- Laws of the numbers: what each verdict of the reader makes of them, and that lengths and lines are small enough for one number.
 use mathlib.Core.Path.{_≡_, refl, sym, ap, _∙_, subst}
-use mathlib.Core.Bool.{Bool, true, false, cond}
 use mathlib.Core.List.{List}
 use mathlib.Core.Logic.{inl, inr}
 use Prim.Native.Nat.{ℕ, _≤_}
@@ -15,14 +14,15 @@ use Rattle.site.specs.declared.Verdict.the-variants.{Accepted, Refused}
 use Rattle.site.specs.declared.Reading.{Reading}
 use Rattle.records.specs.Check.{checked}
 use Rattle.records.specs.CheckLaws.{accepted-counts}
+use Rattle.site.specs.Answers.{refuses}
 use Rattle.site.specs.Reading.{accepted, readText}
 use Rattle.commission.specs.SmallRefusals.{Small, text-refusal-small}
 use Rattle.writer.specs.declared.Written.{Written}
 use Rattle.writer.specs.declared.Written.the-variants.{Length, Refused as RefusedWriting}
-use Rattle.writer.specs.Text.{textOf, fitting, written, roomAfter as writtenRoom}
+use Rattle.writer.specs.Text.{textOf, writtenSays, fitting, written, roomAfter as writtenRoom}
 use Rattle.planner.specs.declared.Planned.{Planned}
 use Rattle.planner.specs.declared.Planned.the-variants.{Plan, Refused as RefusedPlan}
-use Rattle.planner.specs.Answers.{outcomeAnswer, outcomeRoom, answer, roomAfter}
+use Rattle.planner.specs.Answers.{plannedSays, outcomeAnswer, outcomeRoom, answer, roomAfter}
 use Rattle.planner.specs.SequenceLaws.{planned-fresh}
 use Rattle.planner.specs.SiteLaws.{counts-bounded, clusters-counted}
 use Rattle.plantext.specs.PlanText.{siteOf, planText, Placed}
@@ -30,7 +30,7 @@ use Rattle.plantext.specs.PlanTextLaws.{text-bounded}
 use Rattle.model.specs.Plans.{Outcome, planned, noFit, noPlacing, plan}
 use Rattle.roundtrip.specs.WriteOfRead.{write-of-read}
 use Rattle.roundtrip.specs.LongestSite.{longest-site}
-use Rattle.commission.specs.Numbers.{refusalNumber, plannedNumber, writtenNumber, planNumber, planRoom, rewriteNumber, rewriteRoom}
+use Rattle.commission.specs.Numbers.{numberOf, planNumber, planRoom, rewriteNumber, rewriteRoom}
 
 -- an answer of the writer whose length or line is small
 abbrev pub SmallWriting : Written → Type 0
@@ -60,11 +60,11 @@ module _ (t : List ℕ) (reading : Reading) (read : reading ≡ readText t) wher
     pub refused-line-small : line ≤ 194
     refused-line-small = subst Small (verdict-is (Refused number line) refused) (text-refusal-small t) .1
 
-    pub plan-refused : (room : List ℕ) → (refusalNumber number line ≡ planNumber t (length room)) × (room ≡ planRoom t room)
+    pub plan-refused : (room : List ℕ) → (numberOf (refuses number line) ≡ planNumber t (length room)) × (room ≡ planRoom t room)
     unfolding planNumber planRoom
     plan-refused room = let v = verdict-is (Refused number line) refused in (rw v, rw v)
 
-    pub rewrite-refused : (room : List ℕ) → (refusalNumber number line ≡ rewriteNumber t (length room)) × (room ≡ rewriteRoom t room)
+    pub rewrite-refused : (room : List ℕ) → (numberOf (refuses number line) ≡ rewriteNumber t (length room)) × (room ≡ rewriteRoom t room)
     unfolding rewriteNumber rewriteRoom
     rewrite-refused room = let v = verdict-is (Refused number line) refused in (rw v, rw v)
 
@@ -79,7 +79,7 @@ module _ (t : List ℕ) (reading : Reading) (read : reading ≡ readText t) wher
     records-checked = write-of-read t s text-taken .0
 
     pub plan-taken : (room : List ℕ)
-        → (plannedNumber (outcomeAnswer s (plan (siteOf s)) (length room)) ≡ planNumber t (length room)) × (outcomeRoom s (plan (siteOf s)) room ≡ planRoom t room)
+        → (numberOf (plannedSays (outcomeAnswer s (plan (siteOf s)) (length room))) ≡ planNumber t (length room)) × (outcomeRoom s (plan (siteOf s)) room ≡ planRoom t room)
     unfolding planNumber planRoom answer roomAfter
     plan-taken room = (rw (text-taken, records-checked), rw (text-taken, records-checked))
 
@@ -89,7 +89,7 @@ module _ (t : List ℕ) (reading : Reading) (read : reading ≡ readText t) wher
     pub counts-taken : (s .«cluster_count» ≤ 64) × (s .«flow_count» ≤ 128)
     counts-taken = let h = accepted-counts s records-checked in (h .1, h .2)
 
-    pub rewrite-taken : (room : List ℕ) → (writtenNumber (fitting (textOf s) (length room)) ≡ rewriteNumber t (length room)) × (handed (textOf s) room ≡ rewriteRoom t room)
+    pub rewrite-taken : (room : List ℕ) → (numberOf (writtenSays (fitting (textOf s) (length room))) ≡ rewriteNumber t (length room)) × (handed (textOf s) room ≡ rewriteRoom t room)
     unfolding rewriteNumber rewriteRoom written writtenRoom
     rewrite-taken room = (rw (text-taken, records-checked), rw (text-taken, records-checked))
 
@@ -97,8 +97,3 @@ module _ (t : List ℕ) (reading : Reading) (read : reading ≡ readText t) wher
     written-small n =
         let fits : length (textOf s) ≤ 11721 = rw (write-of-read t s text-taken .1) (longest-site t s text-taken) in
         elim (decide (leb (length (textOf s)) n)) [ inl e ↦ rw e fits | inr e ↦ rw e (omega arith) ]
-
--- what is the same on both sides of a test
-pub either-way : {A : Type 0} (b : Bool) (x p q : A) → x ≡ p → x ≡ q → x ≡ cond b p q
-either-way true x p q e f = e
-either-way false x p q e f = f

@@ -1,43 +1,50 @@
--- The C caller's number is exact (document 01, "The plan that is returned"): for any text and a room of 9,673 bytes, the number of `cartheron_plan` is below
--- 65,536 exactly if the text reads and some permitted order has a placing. The room's first bytes then are a plan text of that site. The number is 65,536 x 8
--- exactly if the text reads and no placing exists though the portions fit, 65,536 x 7 exactly if it reads and they fit no permitted order, and
--- 65,536 x m + k for an m from 1 to 6 exactly if the reader refuses by m at line k.
-use mathlib.Core.Path.{_≡_, refl, subst}
+-- The C caller's number is exact (docs/FORMATS.md, "The program and the C functions"), for any text and any room: the number of `cartheron_plan` is below 65,536 exactly
+-- if the text reads, some permitted order has a placing and the room is as long as the plan text. The room then begins with the plan of that site. The number is
+-- 65,536 x 9 exactly if some permitted order has a placing and the room is shorter, 65,536 x 8 exactly if the text reads and no placing exists though the portions fit,
+-- 65,536 x 7 exactly if it reads and they fit no permitted order, and 65,536 x m + k for an m from 1 to 6 exactly if the reader refuses by m at line k.
+use mathlib.Core.Path.{_≡_, refl, sym, ap, _∙_, subst}
 use mathlib.Core.List.{List, [], _∷_}
 use mathlib.Core.Logic.{_↔_, inl, inr}
 use Prim.Native.Nat.{ℕ, _+_, _*_, _≤_, _<_}
 use native.Mathlib.Omega.{arith}
 use lib.Dec.{eqb}
-use lib.ListN.{length, take}
+use lib.ListN.{length}
 use borrow.Author.Tests.{eqb-false}
 use Rattle.hexline.specs.Lines.{Row, rows}
 use Rattle.hexline.specs.Loops.{decide}
 use Rattle.model.specs.Exactness.{Placeable, Late, Misfit}
+use Rattle.site.specs.declared.Reading.{Reading}
 use Rattle.site.specs.declared.Site.{Site}
 use Rattle.site.specs.declared.Verdict.{Verdict}
 use Rattle.site.specs.declared.Verdict.the-variants.{Accepted, Refused}
 use Rattle.site.specs.Records.{noSite}
 use Rattle.site.specs.Reading.{refusalAt, entered, accepted, readRows, readText}
-use Rattle.commission.specs.SmallRefusals.{Small, text-refusal-small}
 use Rattle.site.specs.Table.{due}
 use Rattle.plantext.specs.PlanText.{siteOf}
 use Rattle.planner.specs.declared.Planned.{Planned}
 use Rattle.planner.specs.declared.Planned.the-variants.{Plan, Refused as RefusedPlan}
-use Rattle.planner.specs.Answers.{answer, roomAfter}
-use Rattle.commission.specs.Numbers.{plannedNumber, planNumber, planRoom}
+use Rattle.planner.specs.Answers.{plannedSays, answer, roomAfter}
+use Rattle.commission.specs.Numbers.{numberOf, planNumber, planRoom}
+use Rattle.commission.specs.SmallRefusals.{Small, text-refusal-small}
 use Rattle.roundtrip.specs.WriteOfRead.{write-of-read}
-use Rattle.exactness.specs.PlanRead.{startsIn}
-use Rattle.exactness.specs.PlannerExact.{Places, ExactAnswer, plans as answersPlan, late as answersLate, misfit as answersMisfit, answered-by-three, planner-is-exact}
+use Rattle.exactness.specs.PlanSize.{planSize, plan-size-at-most}
+use Rattle.exactness.specs.PlannerExact.{PlanIn, refuses as answersRefusal, plans as answersPlan, short as answersShort, late as answersLate, misfit as answersMisfit, planner-answered, placeable-not-late, late-not-misfit, placeable-not-misfit}
 
 -- ---- the statement
 
-pub record ExactNumber (text room : List ℕ) : Type 0 where
-  pub planned-exactly : (planNumber text (length room) < 65536) ↔ ((s : Site) × (readText text ≡ accepted s) × Placeable (siteOf s))
-  -- the plan text is the room's first bytes
-  pub plan-is-placing : planNumber text (length room) < 65536 → (s : Site) × (order : ℕ) × (readText text ≡ accepted s) × Places (siteOf s) order (take (planNumber text (length room)) (planRoom text room))
-  pub late-exactly : (planNumber text (length room) ≡ 65536 * 8) ↔ ((s : Site) × (readText text ≡ accepted s) × Late (siteOf s))
-  pub misfit-exactly : (planNumber text (length room) ≡ 65536 * 7) ↔ ((s : Site) × (readText text ≡ accepted s) × Misfit (siteOf s))
-  pub refused-exactly : (number line : ℕ) → 1 ≤ number → number ≤ 6 → line < 65536 → (planNumber text (length room) ≡ 65536 * number + line) ↔ (readText text .verdict ≡ Refused number line)
+-- the text is a site, with these records
+abbrev pub Reads : List ℕ → Site → Type 0
+Reads text s = readText text ≡ accepted s
+
+-- the number n for a text, and the room before and after it
+pub record ExactNumber (text before : List ℕ) (n : ℕ) (after : List ℕ) : Type 0 where
+  pub refused-exactly : (number line : ℕ) → 1 ≤ number → number ≤ 6 → line < 65536 → (n ≡ 65536 * number + line) ↔ (readText text .verdict ≡ Refused number line)
+  pub planned-exactly : (n < 65536) ↔ ((s : Site) × Reads text s × Placeable (siteOf s) × (planSize s ≤ length before))
+  pub plan-is-placing : n < 65536 → (s : Site) × (order : ℕ) × Reads text s × PlanIn s before n order after
+  pub short-exactly : (n ≡ 65536 * 9) ↔ ((s : Site) × Reads text s × Placeable (siteOf s) × (length before < planSize s))
+  pub late-exactly : (n ≡ 65536 * 8) ↔ ((s : Site) × Reads text s × Late (siteOf s))
+  pub misfit-exactly : (n ≡ 65536 * 7) ↔ ((s : Site) × Reads text s × Misfit (siteOf s))
+  pub refusal-writes-nothing : 65536 ≤ n → after ≡ before
 
 -- ---- the reader refuses by a number from 1 on
 
@@ -57,109 +64,161 @@ text-numbered : (text : List ℕ) → Numbered (readText text .verdict)
 unfolding readText
 text-numbered text = rows-numbered (rows text) 1 noSite
 
--- ---- the number, by the reader's verdict and the planner's answer
+-- the reader's refusals are 1 to 6, at a line of at most 194
+pub refusal-in-range : (text : List ℕ) (m k : ℕ) → readText text .verdict ≡ Refused m k → (0 < m) × (m ≤ 6) × (k ≤ 194)
+refusal-in-range text m k e =
+    let small : (m ≤ 6) × (k ≤ 194) = subst Small e (text-refusal-small text) in
+    (subst Numbered e (text-numbered text), small .0, small .1)
 
-module _ (text room : List ℕ) (roomy : 9673 ≤ length room) where
+-- ---- one of five comes back
+
+pub data Returned (text before : List ℕ) (n : ℕ) (after : List ℕ) : Type 0 where
+  refuses : (m k : ℕ) → readText text .verdict ≡ Refused m k → (0 < m) × (m ≤ 6) × (k ≤ 194) → n ≡ 65536 * m + k → after ≡ before → Returned text before n after
+  plans : (s : Site) (order : ℕ) → Reads text s → Placeable (siteOf s) → planSize s ≤ length before → PlanIn s before n order after → n ≤ 9673 → Returned text before n after
+  short : (s : Site) → Reads text s → Placeable (siteOf s) → length before < planSize s → n ≡ 65536 * 9 → after ≡ before → Returned text before n after
+  late : (s : Site) → Reads text s → Late (siteOf s) → n ≡ 65536 * 8 → after ≡ before → Returned text before n after
+  misfit : (s : Site) → Reads text s → Misfit (siteOf s) → n ≡ 65536 * 7 → after ≡ before → Returned text before n after
+
+module _ (text room : List ℕ) where
   abbrev number : ℕ
   number = planNumber text (length room)
 
-  refusal-passed-on : (m k : ℕ) → readText text .verdict ≡ Refused m k → number ≡ 65536 * m + k
-  unfolding planNumber
-  refusal-passed-on m k e = rw e
-
   -- a text that reads
-  module _ (s : Site) (read : readText text ≡ accepted s) where
-    answer-exact : ExactAnswer s room
-    answer-exact = planner-is-exact s (write-of-read text s read .0) room roomy
-
-    number-of-answer : (a : Planned) → answer s (length room) ≡ a → number ≡ plannedNumber a
+  module _ (s : Site) (read : Reads text s) where
+    number-of-answer : (a : Planned) → answer s (length room) ≡ a → number ≡ numberOf (plannedSays a)
     unfolding planNumber
     number-of-answer a e = rw (read, e)
-
-    number-of-plan : (len order : ℕ) → answer s (length room) ≡ Plan len order → number ≡ len
-    unfolding plannedNumber
-    number-of-plan len order e = number-of-answer (Plan len order) e
-
-    number-of-refusal : (m k : ℕ) → answer s (length room) ≡ RefusedPlan m k → number ≡ 65536 * m + k
-    unfolding plannedNumber
-    number-of-refusal m k e = number-of-answer (RefusedPlan m k) e
 
     room-of-answer : planRoom text room ≡ roomAfter s room
     unfolding planRoom
     room-of-answer = rw read
 
-    plan-in-room : (len order : ℕ) → answer s (length room) ≡ Plan len order → Places (siteOf s) order (take number (planRoom text room))
-    plan-in-room len order e = rw (number-of-plan len order e, room-of-answer) (answer-exact .plan-is-placing len order e)
+    returned-by-answer : Returned text room number (planRoom text room)
+    returned-by-answer = let taken = write-of-read text s read .0 in elim (planner-answered s room) [
+      | answersRefusal m k c h is same ↦ absurd (let z : _≡_ {A = ℕ} 0 1 = cc in omega arith)
+      | answersPlan len order a p fits plan is ↦
+          let n : number ≡ len = number-of-answer (Plan len order) is in
+          plans s order read p fits (rw (n, room-of-answer) plan) (omega (arith, plan .size, plan-size-at-most s taken))
+      | answersShort a p less is same ↦ short s read p less (number-of-answer (RefusedPlan 9 0) is) (room-of-answer ∙ same)
+      | answersLate a l is same ↦ late s read l (number-of-answer (RefusedPlan 8 0) is) (room-of-answer ∙ same)
+      | answersMisfit a m is same ↦ misfit s read m (number-of-answer (RefusedPlan 7 0) is) (room-of-answer ∙ same)
+    ]
 
-    plan-number-small : (len order : ℕ) → answer s (length room) ≡ Plan len order → number ≤ 9673
-    plan-number-small len order e = omega (arith, number-of-plan len order e, answer-exact .plan-at-most len order e)
-
-  -- what comes back, and what it says of the text
-  data Returned : Type 0 where
-    refuses : (m k : ℕ) → readText text .verdict ≡ Refused m k → (0 < m) × (m ≤ 6) × (k ≤ 194) → number ≡ 65536 * m + k → Returned
-    plans : (s : Site) (order : ℕ) → readText text ≡ accepted s → Places (siteOf s) order (take number (planRoom text room)) → number ≤ 9673 → Returned
-    late : (s : Site) → readText text ≡ accepted s → Late (siteOf s) → number ≡ 65536 * 8 → Returned
-    misfit : (s : Site) → readText text ≡ accepted s → Misfit (siteOf s) → number ≡ 65536 * 7 → Returned
-
-  returned-by-answer : (s : Site) → readText text ≡ accepted s → Returned
-  returned-by-answer s read = let exact = answer-exact s read in elim (answered-by-three s (write-of-read text s read .0) room roomy) [
-    | answersPlan len order e ↦ plans s order read (plan-in-room s read len order e) (plan-number-small s read len order e)
-    | answersLate e ↦ late s read (exact .late-exactly .0 e) (number-of-refusal s read 8 0 e)
-    | answersMisfit e ↦ misfit s read (exact .misfit-exactly .0 e) (number-of-refusal s read 7 0 e)
-  ]
-
-  returned : Returned
-  returned = by-verdict (readText text .verdict) refl
+  pub caller-returned : Returned text room number (planRoom text room)
+  unfolding planNumber planRoom
+  caller-returned = by-verdict (readText text .verdict) refl
     where
-      by-verdict : (v : Verdict) → readText text .verdict ≡ v → Returned
-      by-verdict (Refused m k) e =
-          let some : 0 < m = subst Numbered e (text-numbered text) in
-          let small : (m ≤ 6) × (k ≤ 194) = subst Small e (text-refusal-small text) in
-          refuses m k e (some, small .0, small .1) (refusal-passed-on m k e)
+      by-verdict : (v : Verdict) → readText text .verdict ≡ v → Returned text room number (planRoom text room)
+      by-verdict (Refused m k) e = refuses m k e (refusal-in-range text m k e) (rw e) (rw e)
       by-verdict Accepted e = returned-by-answer (readText text .site) (λ i. record { site = readText text .site; verdict = e i })
 
-  plan-returned : number < 65536 → (s : Site) × (order : ℕ) × (readText text ≡ accepted s) × Places (siteOf s) order (take number (planRoom text room))
-  plan-returned small = elim returned [
-    | refuses m k e limits is ↦ absurd (omega arith)
-    | plans s order read places most ↦ (s, order, read, places)
-    | late s read h is ↦ absurd (omega arith)
-    | misfit s read h is ↦ absurd (omega arith)
-  ]
+-- ---- and each exactly where it should
 
-  -- ---- the theorem
+module _ (text : List ℕ) where
+  same-site : (s t : Site) → Reads text s → Reads text t → s ≡ t
+  same-site s t p q = ap (λ (r : Reading). r .site) (sym p ∙ q)
 
-  pub c-caller-is-exact : ExactNumber text room
-  c-caller-is-exact = record {
-    planned-exactly = (
-      λ small. let p = plan-returned small in (p .0, p .2, (p .1, startsIn (take number (planRoom text room)), p .3 .order-permitted, p .3 .placing)),
-      λ h. let a = answer-exact (h .0) (h .1) .planned-exactly .1 (h .2) in omega (arith, plan-number-small (h .0) (h .1) (a .0) (a .1) (a .2)),
+  reads-or-refused : {A : Type 0} (s : Site) (m k : ℕ) → Reads text s → readText text .verdict ≡ Refused m k → A
+  reads-or-refused s m k p e = absurd (let q = ap (λ (r : Reading). r .verdict) p in let z : _≡_ {A = ℕ} 0 1 = cc in omega arith)
+
+module _ (text before : List ℕ) (n : ℕ) (after : List ℕ) (returned : Returned text before n after) where
+  pub number-exact : ExactNumber text before n after
+  number-exact = record {
+    refused-exactly = λ number line some few near. (
+      λ e. elim returned [
+        | refuses m k v limits is same ↦ let p : m ≡ number = omega arith in let q : k ≡ line = omega arith in rw (p, q) at v
+        | plans s order read p fits plan most ↦ absurd (omega arith)
+        | short s read p less is same ↦ absurd (omega arith)
+        | late s read l is same ↦ absurd (omega arith)
+        | misfit s read m is same ↦ absurd (omega arith)
+      ],
+      λ e. elim returned [
+        | refuses m k v limits is same ↦ let p : m ≡ number = cc in let q : k ≡ line = cc in omega arith
+        | plans s order read p fits plan most ↦ reads-or-refused text s number line read e
+        | short s read p less is same ↦ reads-or-refused text s number line read e
+        | late s read l is same ↦ reads-or-refused text s number line read e
+        | misfit s read m is same ↦ reads-or-refused text s number line read e
+      ],
     );
-    plan-is-placing = plan-returned;
+    planned-exactly = (
+      λ small. elim returned [
+        | refuses m k v limits is same ↦ absurd (omega arith)
+        | plans s order read p fits plan most ↦ (s, read, p, fits)
+        | short s read p less is same ↦ absurd (omega arith)
+        | late s read l is same ↦ absurd (omega arith)
+        | misfit s read m is same ↦ absurd (omega arith)
+      ],
+      λ w. elim returned [
+        | refuses m k v limits is same ↦ reads-or-refused text (w .0) m k (w .1) v
+        | plans s order read p fits plan most ↦ omega arith
+        | short s read p less is same ↦ let q = same-site text s (w .0) read (w .1) in absurd (omega (arith, rw q at less, w .3))
+        | late s read l is same ↦ let q = same-site text s (w .0) read (w .1) in placeable-not-late (w .0) (w .2) (rw q at l)
+        | misfit s read m is same ↦ let q = same-site text s (w .0) read (w .1) in placeable-not-misfit (w .0) (write-of-read text (w .0) (w .1) .0) (w .2) (rw q at m)
+      ],
+    );
+    plan-is-placing = λ small. elim returned [
+      | refuses m k v limits is same ↦ absurd (omega arith)
+      | plans s order read p fits plan most ↦ (s, order, read, plan)
+      | short s read p less is same ↦ absurd (omega arith)
+      | late s read l is same ↦ absurd (omega arith)
+      | misfit s read m is same ↦ absurd (omega arith)
+    ];
+    short-exactly = (
+      λ e. elim returned [
+        | refuses m k v limits is same ↦ absurd (omega arith)
+        | plans s order read p fits plan most ↦ absurd (omega arith)
+        | short s read p less is same ↦ (s, read, p, less)
+        | late s read l is same ↦ absurd (omega arith)
+        | misfit s read m is same ↦ absurd (omega arith)
+      ],
+      λ w. elim returned [
+        | refuses m k v limits is same ↦ reads-or-refused text (w .0) m k (w .1) v
+        | plans s order read p fits plan most ↦ let q = same-site text s (w .0) read (w .1) in absurd (omega (arith, rw q at fits, w .3))
+        | short s read p less is same ↦ is
+        | late s read l is same ↦ let q = same-site text s (w .0) read (w .1) in placeable-not-late (w .0) (w .2) (rw q at l)
+        | misfit s read m is same ↦ let q = same-site text s (w .0) read (w .1) in placeable-not-misfit (w .0) (write-of-read text (w .0) (w .1) .0) (w .2) (rw q at m)
+      ],
+    );
     late-exactly = (
       λ e. elim returned [
-        | refuses m k v limits is ↦ absurd (omega arith)
-        | plans s order read places most ↦ absurd (omega arith)
-        | late s read h is ↦ (s, read, h)
-        | misfit s read h is ↦ absurd (omega arith)
+        | refuses m k v limits is same ↦ absurd (omega arith)
+        | plans s order read p fits plan most ↦ absurd (omega arith)
+        | short s read p less is same ↦ absurd (omega arith)
+        | late s read l is same ↦ (s, read, l)
+        | misfit s read m is same ↦ absurd (omega arith)
       ],
-      λ h. number-of-refusal (h .0) (h .1) 8 0 (answer-exact (h .0) (h .1) .late-exactly .1 (h .2)),
+      λ w. elim returned [
+        | refuses m k v limits is same ↦ reads-or-refused text (w .0) m k (w .1) v
+        | plans s order read p fits plan most ↦ let q = same-site text s (w .0) read (w .1) in placeable-not-late (w .0) (rw q at p) (w .2)
+        | short s read p less is same ↦ let q = same-site text s (w .0) read (w .1) in placeable-not-late (w .0) (rw q at p) (w .2)
+        | late s read l is same ↦ is
+        | misfit s read m is same ↦ let q = same-site text s (w .0) read (w .1) in late-not-misfit (w .0) (w .2) (rw q at m)
+      ],
     );
     misfit-exactly = (
       λ e. elim returned [
-        | refuses m k v limits is ↦ absurd (omega arith)
-        | plans s order read places most ↦ absurd (omega arith)
-        | late s read h is ↦ absurd (omega arith)
-        | misfit s read h is ↦ (s, read, h)
+        | refuses m k v limits is same ↦ absurd (omega arith)
+        | plans s order read p fits plan most ↦ absurd (omega arith)
+        | short s read p less is same ↦ absurd (omega arith)
+        | late s read l is same ↦ absurd (omega arith)
+        | misfit s read m is same ↦ (s, read, m)
       ],
-      λ h. number-of-refusal (h .0) (h .1) 7 0 (answer-exact (h .0) (h .1) .misfit-exactly .1 (h .2)),
-    );
-    refused-exactly = λ n line some few near. (
-      λ e. elim returned [
-        | refuses m k v limits is ↦ let p : m ≡ n = omega arith in let q : k ≡ line = omega arith in rw (p, q) at v
-        | plans s order read places most ↦ absurd (omega arith)
-        | late s read h is ↦ absurd (omega arith)
-        | misfit s read h is ↦ absurd (omega arith)
+      λ w. elim returned [
+        | refuses m k v limits is same ↦ reads-or-refused text (w .0) m k (w .1) v
+        | plans s order read p fits plan most ↦ let q = same-site text s (w .0) read (w .1) in placeable-not-misfit (w .0) (write-of-read text (w .0) (w .1) .0) (rw q at p) (w .2)
+        | short s read p less is same ↦ let q = same-site text s (w .0) read (w .1) in placeable-not-misfit (w .0) (write-of-read text (w .0) (w .1) .0) (rw q at p) (w .2)
+        | late s read l is same ↦ let q = same-site text s (w .0) read (w .1) in late-not-misfit (w .0) (rw q at l) (w .2)
+        | misfit s read m is same ↦ is
       ],
-      refusal-passed-on n line,
     );
+    refusal-writes-nothing = λ large. elim returned [
+      | refuses m k v limits is same ↦ same
+      | plans s order read p fits plan most ↦ absurd (omega arith)
+      | short s read p less is same ↦ same
+      | late s read l is same ↦ same
+      | misfit s read m is same ↦ same
+    ];
   }
+
+pub c-caller-is-exact : (text room : List ℕ) → ExactNumber text room (planNumber text (length room)) (planRoom text room)
+c-caller-is-exact text room = number-exact text room (planNumber text (length room)) (planRoom text room) (caller-returned text room)

@@ -1,36 +1,40 @@
--- The planner is exact (document 01, refusals 7 and 8, and "The plan that is returned"), said of its own answer: for records that the check accepts and a room
--- of 9,673 bytes, which holds every plan text, a plan comes back exactly if some permitted order has a placing. The room's first bytes then are a plan text
--- whose starts are a placing at its order, and no larger permitted order has any. Refusal 8 comes exactly if the portions fit a permitted order and no permitted
--- order has a placing, and refusal 7 exactly if they fit none.
-use mathlib.Core.Path.{_≡_, refl, sym, ap, _∙_}
-use mathlib.Core.Bool.{true}
-use mathlib.Core.List.{List}
-use mathlib.Core.Logic.{_↔_}
+-- The planner is exact (docs/FORMATS.md, "Refusal numbers" and "The plan that is returned"), said of its own answer to any records and any room: 4, 5 and 6 come
+-- exactly as the check gives them. For records that it accepts a plan comes back exactly if some permitted order has a placing and the room is as long as the plan text,
+-- 9 exactly if some has and the room is shorter, 8 exactly if the portions fit a permitted order and no permitted order has a placing, and 7 exactly if they fit none.
+-- A plan is the published one, its starts are a placing at its order, and no larger permitted order has any. A refusal leaves the room as it was.
+use mathlib.Core.Path.{_≡_, refl, sym, ap, _∙_, subst}
+use mathlib.Core.Bool.{true, false}
+use mathlib.Core.List.{List, _++_}
+use mathlib.Core.Logic.{_↔_, inl, inr}
 use Prim.Native.Nat.{ℕ, suc, _≤_, _<_}
 use native.Mathlib.Omega.{arith}
 use lib.Dec.{leb}
 use lib.ListN.{length, take, drop}
 use lib.Seq.{take-append-seam}
-use borrow.Author.Tests.{le-leb}
+use borrow.Author.Tests.{leb-true, leb-false}
 use Rattle.hexline.specs.Lines.{rows}
+use Rattle.hexline.specs.Loops.{decide}
 use Rattle.hexline.specs.Room.{handed}
 use Rattle.model.specs.Exactness.{Permitted, Placeless, Placeable, Late, Misfit, Exact, plan-is-exact}
 use Rattle.model.specs.Placing.{Placing}
 use Rattle.model.specs.Plans.{Outcome, planned, noFit, noPlacing, plan}
+use Rattle.model.specs.PublishedPlan.{Published, plan-is-published}
 use Rattle.model.specs.Sequences.{starts}
 use Rattle.model.specs.Sites as model
 use Rattle.site.specs.declared.Site.{Site}
-use Rattle.site.specs.declared.Verdict.the-variants.{Accepted}
+use Rattle.site.specs.declared.Verdict.{Verdict}
+use Rattle.site.specs.declared.Verdict.the-variants.{Accepted, Refused}
 use Rattle.records.specs.Check.{checked}
+use Rattle.records.specs.CheckNumbers.{ByRecords, check-by-records}
 use Rattle.plantext.specs.PlanText.{siteOf, planText}
-use Rattle.planner.specs.declared.Planned as answers
-use Rattle.planner.specs.declared.Planned.the-variants.{Plan, Refused}
+use Rattle.planner.specs.declared.Planned.{Planned}
+use Rattle.planner.specs.declared.Planned.the-variants.{Plan, Refused as RefusedPlan}
 use Rattle.planner.specs.Answers.{answer, roomAfter}
+use Rattle.planner.specs.SiteLaws.{clusters-counted, describes-sound}
 use Rattle.exactness.specs.PlanRead.{orderIn, linesFor, startsIn}
 use Rattle.exactness.specs.PlanReadLaws.{order-in-plan-text, starts-in-plan-text, one-line-each, no-other-line}
-use Rattle.exactness.specs.LongestPlan.{longest-plan}
+use Rattle.exactness.specs.PlanSize.{planSize, plan-text-size}
 use Rattle.exactness.specs.SameStarts.{same-starts-place}
-use Rattle.planner.specs.SiteLaws.{clusters-counted, describes-sound}
 
 -- ---- the statement
 
@@ -44,44 +48,38 @@ pub record Places (s : model.Site) (order : ℕ) (text : List ℕ) : Type 0 wher
   pub placing : Placing s order (startsIn text)
   pub largest-order : (larger : ℕ) → order < larger → Permitted s larger → Placeless s larger
 
-pub record ExactAnswer (s : Site) (room : List ℕ) : Type 0 where
-  pub planned-exactly : ((len order : ℕ) × (answer s (length room) ≡ Plan len order)) ↔ Placeable (siteOf s)
-  pub plan-at-most : (len order : ℕ) → answer s (length room) ≡ Plan len order → len ≤ 9673
-  -- the plan text is the room's first bytes
-  pub plan-is-placing : (len order : ℕ) → answer s (length room) ≡ Plan len order → Places (siteOf s) order (take len (roomAfter s room))
-  pub late-exactly : (answer s (length room) ≡ Refused 8 0) ↔ Late (siteOf s)
-  pub misfit-exactly : (answer s (length room) ≡ Refused 7 0) ↔ Misfit (siteOf s)
+-- a plan of the records in the first `len` bytes of a room, and the old bytes behind them
+pub record PlanIn (s : Site) (before : List ℕ) (len order : ℕ) (after : List ℕ) : Type 0 where
+  pub size : len ≡ planSize s
+  pub places : Places (siteOf s) order (take len after)
+  -- it is the plan text of the published model's plan
+  pub sequence : List ℕ
+  pub published : Published (siteOf s) order sequence
+  pub bytes : after ≡ planText s order sequence ++ drop len before
 
--- ---- the answer by the model's outcome, in a room that is long enough
+abbrev pub Taken : Site → Type 0
+Taken s = checked s ≡ Accepted
 
--- what comes back: a plan, refusal 8 or refusal 7
-pub data Answered (s : Site) (room : ℕ) : Type 0 where
-  plans : (len order : ℕ) → answer s room ≡ Plan len order → Answered s room
-  late : answer s room ≡ Refused 8 0 → Answered s room
-  misfit : answer s room ≡ Refused 7 0 → Answered s room
+-- the answer r to the records s, and the room before and after it
+pub record ExactAnswer (s : Site) (before : List ℕ) (r : Planned) (after : List ℕ) : Type 0 where
+  pub refused-exactly : (number line : ℕ) → 4 ≤ number → number ≤ 6 → (r ≡ RefusedPlan number line) ↔ (checked s ≡ Refused number line)
+  pub planned-exactly : ((len order : ℕ) × (r ≡ Plan len order)) ↔ (Taken s × Placeable (siteOf s) × (planSize s ≤ length before))
+  pub plan-is-placing : (len order : ℕ) → r ≡ Plan len order → PlanIn s before len order after
+  pub short-exactly : (r ≡ RefusedPlan 9 0) ↔ (Taken s × Placeable (siteOf s) × (length before < planSize s))
+  pub late-exactly : (r ≡ RefusedPlan 8 0) ↔ (Taken s × Late (siteOf s))
+  pub misfit-exactly : (r ≡ RefusedPlan 7 0) ↔ (Taken s × Misfit (siteOf s))
+  pub refusal-writes-nothing : (number line : ℕ) → r ≡ RefusedPlan number line → after ≡ before
 
-abbrev roomyAnswer : Site → Outcome → answers.Planned
-roomyAnswer s (planned order sequence) = Plan (length (planText s order sequence)) order
-roomyAnswer s noFit = Refused 7 0
-roomyAnswer s noPlacing = Refused 8 0
+-- ---- one of five comes back
 
-module _ (s : Site) where
-  answers-plan : (r : Outcome) (len order : ℕ) → roomyAnswer s r ≡ Plan len order → (sequence : List ℕ) × (r ≡ planned order sequence) × (len ≡ length (planText s order sequence))
-  answers-plan (planned o l) len order e = (l, (cc), (cc))
-  answers-plan noFit len order e = absurd (let z : _≡_ {A = ℕ} 0 1 = cc in omega arith)
-  answers-plan noPlacing len order e = absurd (let z : _≡_ {A = ℕ} 0 1 = cc in omega arith)
+pub data Answered (s : Site) (before : List ℕ) (r : Planned) (after : List ℕ) : Type 0 where
+  refuses : (number line : ℕ) → checked s ≡ Refused number line → (4 ≤ number) × (number ≤ 6) → r ≡ RefusedPlan number line → after ≡ before → Answered s before r after
+  plans : (len order : ℕ) → Taken s → Placeable (siteOf s) → planSize s ≤ length before → PlanIn s before len order after → r ≡ Plan len order → Answered s before r after
+  short : Taken s → Placeable (siteOf s) → length before < planSize s → r ≡ RefusedPlan 9 0 → after ≡ before → Answered s before r after
+  late : Taken s → Late (siteOf s) → r ≡ RefusedPlan 8 0 → after ≡ before → Answered s before r after
+  misfit : Taken s → Misfit (siteOf s) → r ≡ RefusedPlan 7 0 → after ≡ before → Answered s before r after
 
-  answers-late : (r : Outcome) → roomyAnswer s r ≡ Refused 8 0 → r ≡ noPlacing
-  answers-late (planned o l) e = cc
-  answers-late noFit e = cc
-  answers-late noPlacing e = refl
-
-  answers-misfit : (r : Outcome) → roomyAnswer s r ≡ Refused 7 0 → r ≡ noFit
-  answers-misfit (planned o l) e = cc
-  answers-misfit noFit e = refl
-  answers-misfit noPlacing e = cc
-
-module _ (s : Site) (accepted : checked s ≡ Accepted) where
+module _ (s : Site) (accepted : Taken s) where
   exact : Exact (siteOf s)
   exact = plan-is-exact (siteOf s) (describes-sound s accepted)
 
@@ -100,54 +98,157 @@ module _ (s : Site) (accepted : checked s ≡ Accepted) where
         largest-order = p .largest-order;
       }
 
-  short-text : (order : ℕ) (sequence : List ℕ) → plan (siteOf s) ≡ planned order sequence → length (planText s order sequence) ≤ 9673
-  short-text order sequence e = longest-plan s accepted order sequence (exact .planned-is order sequence e)
-
-  module _ (room : List ℕ) (roomy : 9673 ≤ length room) where
-    text-fits : (order : ℕ) (sequence : List ℕ) → plan (siteOf s) ≡ planned order sequence → leb (length (planText s order sequence)) (length room) ≡ true
-    text-fits order sequence e = le-leb (length (planText s order sequence)) (length room) (omega (arith, short-text order sequence e))
-
-    answer-by-plan : (r : Outcome) → plan (siteOf s) ≡ r → answer s (length room) ≡ roomyAnswer s r
-    unfolding answer
-    answer-by-plan (planned order sequence) e = rw (accepted, e, text-fits order sequence e)
-    answer-by-plan noFit e = rw (accepted, e)
-    answer-by-plan noPlacing e = rw (accepted, e)
-
-    first-bytes : (order : ℕ) (sequence : List ℕ) → plan (siteOf s) ≡ planned order sequence
-        → take (length (planText s order sequence)) (roomAfter s room) ≡ planText s order sequence
-    unfolding roomAfter handed
-    first-bytes order sequence e = let text : List ℕ = planText s order sequence in
-        rw (accepted, e, text-fits order sequence e) (take-append-seam text (drop (length text) room))
-
-    answered : answer s (length room) ≡ roomyAnswer s (plan (siteOf s))
-    answered = answer-by-plan (plan (siteOf s)) refl
-
-    pub answered-by-three : Answered s (length room)
-    answered-by-three = by-outcome (plan (siteOf s)) refl
-      where
-        by-outcome : (r : Outcome) → plan (siteOf s) ≡ r → Answered s (length room)
-        by-outcome (planned order sequence) e = plans (length (planText s order sequence)) order (answer-by-plan (planned order sequence) e)
-        by-outcome noFit e = misfit (answer-by-plan noFit e)
-        by-outcome noPlacing e = late (answer-by-plan noPlacing e)
-
-    the-plan : (len order : ℕ) → answer s (length room) ≡ Plan len order
-        → (sequence : List ℕ) × (plan (siteOf s) ≡ planned order sequence) × (len ≡ length (planText s order sequence))
-    the-plan len order e = answers-plan s (plan (siteOf s)) len order (sym answered ∙ e)
-
-    pub planner-is-exact : ExactAnswer s room
-    planner-is-exact = record {
-      planned-exactly = (
-        λ a. let p = the-plan (a .0) (a .1) (a .2) in exact .planned-iff .0 (a .1, p .0, p .1),
-        λ h. let p = exact .planned-iff .1 h in (length (planText s (p .0) (p .1)), p .0, answer-by-plan (planned (p .0) (p .1)) (p .2)),
-      );
-      plan-at-most = λ len order e. let p = the-plan len order e in omega (arith, p .2, short-text order (p .0) (p .1));
-      plan-is-placing = λ len order e. let p = the-plan len order e in rw (p .2, first-bytes order (p .0) (p .1)) (plan-text-places order (p .0) (p .1));
-      late-exactly = (
-        λ e. exact .noPlacing-iff .0 (answers-late s (plan (siteOf s)) (sym answered ∙ e)),
-        λ h. answer-by-plan noPlacing (exact .noPlacing-iff .1 h),
-      );
-      misfit-exactly = (
-        λ e. exact .noFit-iff .0 (answers-misfit s (plan (siteOf s)) (sym answered ∙ e)),
-        λ h. answer-by-plan noFit (exact .noFit-iff .1 h),
-      );
+  module _ (room : List ℕ) where
+    plan-in-room : (order : ℕ) (sequence : List ℕ) → plan (siteOf s) ≡ planned order sequence
+        → let text : List ℕ = planText s order sequence in PlanIn s room (length text) order (text ++ drop (length text) room)
+    plan-in-room order sequence e = let text : List ℕ = planText s order sequence in record {
+      size = plan-text-size s accepted order sequence (exact .planned-is order sequence e);
+      places = rw (take-append-seam text (drop (length text) room)) (plan-text-places order sequence e);
+      sequence = sequence;
+      published = plan-is-published (siteOf s) (describes-sound s accepted) order sequence .0 e;
+      bytes = refl;
     }
+
+    answered-by-outcome : (o : Outcome) → plan (siteOf s) ≡ o → Answered s room (answer s (length room)) (roomAfter s room)
+    unfolding answer roomAfter handed
+    answered-by-outcome noFit e = misfit accepted (exact .noFit-iff .0 e) (rw (accepted, e)) (rw (accepted, e))
+    answered-by-outcome noPlacing e = late accepted (exact .noPlacing-iff .0 e) (rw (accepted, e)) (rw (accepted, e))
+    answered-by-outcome (planned order sequence) e =
+        let text : List ℕ = planText s order sequence in
+        let size = plan-text-size s accepted order sequence (exact .planned-is order sequence e) in
+        let placeable = exact .planned-iff .0 (order, sequence, e) in
+        elim (decide (leb (length text) (length room))) [
+          | inl f ↦
+              let fits = leb-true (length text) (length room) f in
+              let after : roomAfter s room ≡ text ++ drop (length text) room = rw (accepted, e, f) in
+              plans (length text) order accepted placeable (omega arith) (rw after (plan-in-room order sequence e)) (rw (accepted, e, f))
+          | inr f ↦ let less = leb-false (length text) (length room) f in short accepted placeable (omega arith) (rw (accepted, e, f)) (rw (accepted, e, f))
+        ]
+
+pub planner-answered : (s : Site) (room : List ℕ) → Answered s room (answer s (length room)) (roomAfter s room)
+unfolding answer roomAfter
+planner-answered s room = by-verdict (checked s) refl
+  where
+    by-verdict : (v : Verdict) → checked s ≡ v → Answered s room (answer s (length room)) (roomAfter s room)
+    by-verdict Accepted e = answered-by-outcome s e room (plan (siteOf s)) refl
+    by-verdict (Refused number line) e = refuses number line e (subst ByRecords e (check-by-records s)) (rw e) (rw e)
+
+-- ---- and each exactly where it should
+
+module _ (s : Site) where
+  accepted-or-refused : {A : Type 0} (number line : ℕ) → Taken s → checked s ≡ Refused number line → A
+  accepted-or-refused number line a e = absurd (let z : _≡_ {A = ℕ} 0 1 = cc in omega arith)
+
+  pub placeable-not-late : {A : Type 0} → Placeable (siteOf s) → Late (siteOf s) → A
+  placeable-not-late p l = absurd (l .1 (p .0) (p .2) (p .1) (p .3))
+
+  pub late-not-misfit : {A : Type 0} → Late (siteOf s) → Misfit (siteOf s) → A
+  late-not-misfit l m = absurd (m (l .0 .0) (l .0 .1) (l .0 .2))
+
+  pub placeable-not-misfit : {A : Type 0} → Taken s → Placeable (siteOf s) → Misfit (siteOf s) → A
+  placeable-not-misfit a p m =
+      let e = exact s a .planned-iff .1 p .2 in
+      let f = exact s a .noFit-iff .1 m in
+      absurd (let z : _≡_ {A = ℕ} 0 1 = cc in omega arith)
+
+module _ (s : Site) (before : List ℕ) (r : Planned) (after : List ℕ) (answered : Answered s before r after) where
+  pub answer-exact : ExactAnswer s before r after
+  answer-exact = record {
+    refused-exactly = λ number line low high. (
+      λ e. elim answered [
+        | refuses m k c h is same ↦ cc
+        | plans len order a p fits text is ↦ absurd (let z : _≡_ {A = ℕ} 0 1 = cc in omega arith)
+        | short a p less is same ↦ absurd (let q : number ≡ 9 = cc in omega arith)
+        | late a l is same ↦ absurd (let q : number ≡ 8 = cc in omega arith)
+        | misfit a m is same ↦ absurd (let q : number ≡ 7 = cc in omega arith)
+      ],
+      λ e. elim answered [
+        | refuses m k c h is same ↦ cc
+        | plans len order a p fits text is ↦ accepted-or-refused s number line a e
+        | short a p less is same ↦ accepted-or-refused s number line a e
+        | late a l is same ↦ accepted-or-refused s number line a e
+        | misfit a m is same ↦ accepted-or-refused s number line a e
+      ],
+    );
+    planned-exactly = (
+      λ e. let is = e .2 in elim answered [
+        | refuses m k c h q same ↦ absurd (let z : _≡_ {A = ℕ} 0 1 = cc in omega arith)
+        | plans len order a p fits text q ↦ (a, p, fits)
+        | short a p less q same ↦ absurd (let z : _≡_ {A = ℕ} 0 1 = cc in omega arith)
+        | late a l q same ↦ absurd (let z : _≡_ {A = ℕ} 0 1 = cc in omega arith)
+        | misfit a m q same ↦ absurd (let z : _≡_ {A = ℕ} 0 1 = cc in omega arith)
+      ],
+      λ w. elim answered [
+        | refuses m k c h is same ↦ accepted-or-refused s m k (w .0) c
+        | plans len order a p fits text is ↦ (len, order, is)
+        | short a p less is same ↦ absurd (omega arith)
+        | late a l is same ↦ placeable-not-late s (w .1) l
+        | misfit a m is same ↦ placeable-not-misfit s a (w .1) m
+      ],
+    );
+    plan-is-placing = λ len order e. elim answered [
+      | refuses m k c h is same ↦ absurd (let z : _≡_ {A = ℕ} 0 1 = cc in omega arith)
+      | plans n o a p fits text is ↦ let q : n ≡ len = cc in let t : o ≡ order = cc in rw (q, t) at text
+      | short a p less is same ↦ absurd (let z : _≡_ {A = ℕ} 0 1 = cc in omega arith)
+      | late a l is same ↦ absurd (let z : _≡_ {A = ℕ} 0 1 = cc in omega arith)
+      | misfit a m is same ↦ absurd (let z : _≡_ {A = ℕ} 0 1 = cc in omega arith)
+    ];
+    short-exactly = (
+      λ e. elim answered [
+        | refuses m k c h is same ↦ absurd (let q : m ≡ 9 = cc in omega arith)
+        | plans len order a p fits text is ↦ absurd (let z : _≡_ {A = ℕ} 0 1 = cc in omega arith)
+        | short a p less is same ↦ (a, p, less)
+        | late a l is same ↦ absurd (let q : _≡_ {A = ℕ} 8 9 = cc in omega arith)
+        | misfit a m is same ↦ absurd (let q : _≡_ {A = ℕ} 7 9 = cc in omega arith)
+      ],
+      λ w. elim answered [
+        | refuses m k c h is same ↦ accepted-or-refused s m k (w .0) c
+        | plans len order a p fits text is ↦ absurd (omega arith)
+        | short a p less is same ↦ is
+        | late a l is same ↦ placeable-not-late s (w .1) l
+        | misfit a m is same ↦ placeable-not-misfit s a (w .1) m
+      ],
+    );
+    late-exactly = (
+      λ e. elim answered [
+        | refuses m k c h is same ↦ absurd (let q : m ≡ 8 = cc in omega arith)
+        | plans len order a p fits text is ↦ absurd (let z : _≡_ {A = ℕ} 0 1 = cc in omega arith)
+        | short a p less is same ↦ absurd (let q : _≡_ {A = ℕ} 9 8 = cc in omega arith)
+        | late a l is same ↦ (a, l)
+        | misfit a m is same ↦ absurd (let q : _≡_ {A = ℕ} 7 8 = cc in omega arith)
+      ],
+      λ w. elim answered [
+        | refuses m k c h is same ↦ accepted-or-refused s m k (w .0) c
+        | plans len order a p fits text is ↦ placeable-not-late s p (w .1)
+        | short a p less is same ↦ placeable-not-late s p (w .1)
+        | late a l is same ↦ is
+        | misfit a m is same ↦ late-not-misfit s (w .1) m
+      ],
+    );
+    misfit-exactly = (
+      λ e. elim answered [
+        | refuses m k c h is same ↦ absurd (let q : m ≡ 7 = cc in omega arith)
+        | plans len order a p fits text is ↦ absurd (let z : _≡_ {A = ℕ} 0 1 = cc in omega arith)
+        | short a p less is same ↦ absurd (let q : _≡_ {A = ℕ} 9 7 = cc in omega arith)
+        | late a l is same ↦ absurd (let q : _≡_ {A = ℕ} 8 7 = cc in omega arith)
+        | misfit a m is same ↦ (a, m)
+      ],
+      λ w. elim answered [
+        | refuses m k c h is same ↦ accepted-or-refused s m k (w .0) c
+        | plans len order a p fits text is ↦ placeable-not-misfit s a p (w .1)
+        | short a p less is same ↦ placeable-not-misfit s a p (w .1)
+        | late a l is same ↦ late-not-misfit s l (w .1)
+        | misfit a m is same ↦ is
+      ],
+    );
+    refusal-writes-nothing = λ number line e. elim answered [
+      | refuses m k c h is same ↦ same
+      | plans len order a p fits text is ↦ absurd (let z : _≡_ {A = ℕ} 0 1 = cc in omega arith)
+      | short a p less is same ↦ same
+      | late a l is same ↦ same
+      | misfit a m is same ↦ same
+    ];
+  }
+
+pub planner-is-exact : (s : Site) (room : List ℕ) → ExactAnswer s room (answer s (length room)) (roomAfter s room)
+planner-is-exact s room = answer-exact s room (answer s (length room)) (roomAfter s room) (planner-answered s room)

@@ -1,25 +1,31 @@
 -- What the planner answers to records and leaves in the lent room (document 01, "The plan that is returned" and "Refusal numbers"): 4, 5 and 6 as the site
 -- writer gives them, then 7, 8 and 9 with line 0, else the plan text.
 use mathlib.Core.Bool.{cond}
-use mathlib.Core.List.{List}
+use mathlib.Core.List.{List, [], _∷_}
 use Prim.Native.Nat.{ℕ}
 use lib.ListN.{length}
 use lib.Dec.{leb}
 use Rattle.hexline.specs.Room.{handed}
-use Rattle.model.specs.Plans.{Outcome, planned, noFit, noPlacing, plan}
+use Rattle.model.specs.Plans.{Outcome, planned, noFit, noPlacing, refusalOf, plan}
 use Rattle.site.specs.declared.Site.{Site}
 use Rattle.site.specs.declared.Verdict.{Verdict}
 use Rattle.site.specs.declared.Verdict.the-variants.{Accepted, Refused}
+use Rattle.site.specs.Answers.{Answer, gives, refuses, shortRoom}
 use Rattle.records.specs.Check.{checked}
 use Rattle.plantext.specs.PlanText.{siteOf, planText}
 use Rattle.planner.specs.declared.Planned.{Planned}
 use Rattle.planner.specs.declared.Planned.the-variants.{Plan, Refused as RefusedPlan}
 
+-- what the planner's answer says: how long the plan text is, and the beacon order
+abbrev pub plannedSays : Planned → Answer
+plannedSays (Plan length order) = gives (length ∷ order ∷ [])
+plannedSays (RefusedPlan number line) = refuses number line
+
 -- the answer to accepted records, by the model's plan of the site that they describe, in a room of so many bytes
 abbrev pub outcomeAnswer : Site → Outcome → ℕ → Planned
-outcomeAnswer s (planned order sequence) room = cond (leb (length (planText s order sequence)) room) (Plan (length (planText s order sequence)) order) (RefusedPlan 9 0)
-outcomeAnswer s noFit room = RefusedPlan 7 0
-outcomeAnswer s noPlacing room = RefusedPlan 8 0
+outcomeAnswer s (planned order sequence) room = cond (leb (length (planText s order sequence)) room) (Plan (length (planText s order sequence)) order) (RefusedPlan shortRoom 0)
+outcomeAnswer s noFit room = RefusedPlan (refusalOf noFit) 0
+outcomeAnswer s noPlacing room = RefusedPlan (refusalOf noPlacing) 0
 
 -- and the room after it
 abbrev pub outcomeRoom : Site → Outcome → List ℕ → List ℕ

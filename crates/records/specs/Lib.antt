@@ -1,3 +1,4 @@
 pub mod Check
 pub mod CheckLaws
+pub mod CheckNumbers
 pub mod Checked

@@ -5,5 +5,6 @@ pub mod LinesLaws
 pub mod Table
 pub mod TableLaws
 pub mod Reading
+pub mod Answers
 pub mod ReadLaws
 pub mod LeftLaws

@@ -13,6 +13,7 @@ use Rattle.site.specs.declared.Flow.{Flow}
 use Rattle.site.specs.declared.Site.{Site}
 use Rattle.site.specs.declared.Verdict.{Verdict}
 use Rattle.site.specs.declared.Verdict.the-variants.{Accepted, Refused}
+use Rattle.site.specs.Answers.{Answer, gives, refuses, shortRoom}
 use Rattle.writer.specs.declared.Written.{Written}
 use Rattle.writer.specs.declared.Written.the-variants.{Length, Refused as RefusedWriting}
 
@@ -43,9 +44,14 @@ textOf s =
     lineOf (headerBytes (s .«cluster_count») (s .«flow_count»))
     ++ (linesOf clusterBytes (take (s .«cluster_count») (s .clusters)) ++ linesOf flowBytes (take (s .«flow_count») (s .flows)))
 
+-- what the writer's answer says: how long the text is
+abbrev pub writtenSays : Written → Answer
+writtenSays (Length n) = gives (n ∷ [])
+writtenSays (RefusedWriting number line) = refuses number line
+
 -- what is answered in a room of so many bytes where the text is the answer
 abbrev pub fitting : List ℕ → ℕ → Written
-fitting text room = cond (leb (length text) room) (Length (length text)) (RefusedWriting 9 0)
+fitting text room = cond (leb (length text) room) (Length (length text)) (RefusedWriting shortRoom 0)
 
 -- the writer's answer: the check's refusal, else 9 where the room is shorter than the text, else the text's length
 unfoldable pub written : Verdict → List ℕ → ℕ → Written

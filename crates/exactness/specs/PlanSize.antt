@@ -1,14 +1,15 @@
--- Document 01, "The plan that is returned": the plan text has "At most 9,673 bytes". The header takes 9 bytes with its LF and each of at most 64 clusters
--- at most 151, and 9 + 64 x 151 = 9,673.
+-- How long the plan text of a site's records is (docs/FORMATS.md, "Plan text"): 9 bytes for the header line, and 23 and twice the tag's length for each cluster's,
+-- whatever the order and the sequence are.
 use mathlib.Core.Path.{_≡_, refl, ap, _∙_}
 use mathlib.Core.List.{List, [], _∷_}
-use Prim.Native.Nat.{ℕ, zero, suc, _*_, _≤_, _<_}
+use Prim.Native.Nat.{ℕ, zero, suc, _+_, _*_, _≤_, _<_}
 use native.Mathlib.Nat.{suc-mul}
 use native.Mathlib.Omega.{arith}
 use lib.ListN.{length, getD, length-append}
 use Rattle.hexline.specs.Digits.{lineOf}
 use Rattle.hexline.specs.Listing.{linesOf}
 use Rattle.model.specs.Counting.{sumBelow, sumOver}
+use Rattle.model.specs.CountingLaws.{sum-same}
 use Rattle.model.specs.Exactness.{IsPlan}
 use Rattle.model.specs.Orders.{portion}
 use Rattle.model.specs.Sequences.{starts}
@@ -22,6 +23,12 @@ use Rattle.plantext.specs.PlanText.{siteOf, planLine, planLines, planText}
 use Rattle.plantext.specs.PlanTextLaws.{cluster-length, text-length}
 use Rattle.planner.specs.SiteLaws.{clusters-counted}
 
+abbrev pub lineSize : Site → ℕ → ℕ
+lineSize s c = 23 + 2 * getD (s .clusters) c absent .tag .len
+
+unfoldable pub planSize : Site → ℕ
+planSize s = 9 + sumBelow (s .«cluster_count») (lineSize s)
+
 lines-length : (bytes : ℕ → List ℕ) (xs : List ℕ) → length (linesOf bytes xs) ≡ sumOver (λ x. length (lineOf (bytes x))) xs
 unfolding linesOf sumOver
 lines-length bytes [] = refl
@@ -32,25 +39,30 @@ unfolding sumBelow
 sum-at-most zero most f h = omega arith
 sum-at-most (suc n) most f h = omega (arith, h n (omega arith), sum-at-most n most f (λ i l. h i (omega arith)), suc-mul n most)
 
-module _ (s : Site) (accepted : checked s ≡ Accepted) (order : ℕ) (sequence : List ℕ) (plan : IsPlan (siteOf s) order sequence) where
-  line-at-most : (c : ℕ) → c < s .«cluster_count» → length (lineOf (planLine s sequence c)) ≤ 151
-  unfolding planLine
-  line-at-most c l =
-      let cluster : Cluster = getD (s .clusters) c absent in
-      let within = site-cluster-in s (checked-unrefused s accepted) c l in
-      omega (arith, cluster-length c (starts (siteOf s) sequence c) (portion (cluster .order)) (cluster .tag) (within .whole))
+module _ (s : Site) (accepted : checked s ≡ Accepted) where
+  pub plan-size-at-most : planSize s ≤ 9673
+  unfolding planSize
+  plan-size-at-most =
+      let n : ℕ = s .«cluster_count» in
+      omega (
+        arith,
+        sum-at-most n 151 (lineSize s) (λ c l. omega (arith, site-cluster-in s (checked-unrefused s accepted) c l .short)),
+        counts-in s (checked-unrefused s accepted) .clusters,
+      )
 
-  pub longest-plan : length (planText s order sequence) ≤ 9673
-  unfolding planLines
-  longest-plan =
+  pub plan-text-size : (order : ℕ) (sequence : List ℕ) → IsPlan (siteOf s) order sequence → length (planText s order sequence) ≡ planSize s
+  unfolding planSize planLines planLine
+  plan-text-size order sequence plan =
       let n : ℕ = s .«cluster_count» in
       let size : ℕ → ℕ = λ c. length (lineOf (planLine s sequence c)) in
+      let line : (c : ℕ) → c < n → size c ≡ lineSize s c = λ c l.
+      let cluster : Cluster = getD (s .clusters) c absent in
+      cluster-length c (starts (siteOf s) sequence c) (portion (cluster .order)) (cluster .tag) (site-cluster-in s (checked-unrefused s accepted) c l .whole) in
       omega (
         arith,
         text-length s order sequence,
         lines-length (planLine s sequence) sequence,
         plan .each-once size,
         ap (λ m. sumBelow m size) (clusters-counted s accepted),
-        sum-at-most n 151 size line-at-most,
-        counts-in s (checked-unrefused s accepted) .clusters,
+        sum-same n size (lineSize s) line,
       )
