@@ -13,7 +13,7 @@ import sys
 import plan_rules
 import plan_sites
 from planning import plan
-from site_cases import hex_line
+from demands import hex_line
 
 GROUPS = plan_rules.GROUPS + plan_sites.GROUPS
 

@@ -1,4 +1,4 @@
-"""What the cases of site_cases are built from: lines, sites, patches of records, and the case itself."""
+"""What the cases of demands.py are built from: lines, sites, patches of records, and the case itself."""
 
 import struct
 from dataclasses import dataclass
@@ -19,6 +19,8 @@ class Case:
     patches: tuple = ()
     room: int = LARGEST_TEXT
     line: int = 2
+    plans: object = OPEN     # the planner's refusal, or the beacon order and the clusters in order of start
+    plan_room: int = LARGEST_TEXT
 
 
 def reads(text, refusal=None, asked=2):

@@ -5,11 +5,12 @@ Run by `python3 -m unittest discover tests`.
 
 import unittest
 
-import site_cases
+import demands
 from reference import lines, read, shown, write
 from site_building import LARGEST_NUMBER, LARGEST_TEXT, LONGEST, OPEN, P3, pair, text_of
 
-CASES = site_cases.cases()
+CASES = demands.cases()
+ANSWERS = [demands.answers(case) for case in CASES]
 
 
 class WorkedRows(unittest.TestCase):
@@ -46,33 +47,32 @@ class Sizes(unittest.TestCase):
 
 class Cases(unittest.TestCase):
     def test_answers_are_those_stated(self):
-        for case in CASES:
-            refusal, _, written = site_cases.answers(case)
+        for case, given in zip(CASES, ANSWERS):
             if case.reads != OPEN:
-                self.assertEqual((refusal, written), (case.reads, case.writes), case)
+                self.assertEqual(case.reads, given.read if isinstance(given.read, tuple) else None, case)
+                self.assertEqual(case.writes, given.written, case)
 
     def test_accepted_text_is_written_back(self):
-        for case in CASES:
-            if site_cases.answers(case)[0] is None:
+        for case, given in zip(CASES, ANSWERS):
+            if not isinstance(given.read, tuple):
                 self.assertEqual(write(read(case.text), LARGEST_TEXT), case.text)
 
     def test_written_records_are_read_back(self):
-        for case in CASES:
-            written = site_cases.answers(case)[2]
-            if isinstance(written, bytes):
-                self.assertEqual(write(read(written), LARGEST_TEXT), written)
+        for given in ANSWERS:
+            if isinstance(given.written, bytes):
+                self.assertEqual(write(read(given.written), LARGEST_TEXT), given.written)
 
     def test_every_refusal_at_its_first_and_last_line(self):
-        read_refusals = {site_cases.answers(case)[0] for case in CASES}
-        written = {answer for case in CASES if isinstance(answer := site_cases.answers(case)[2], tuple)}
+        read_refusals = {given.read for given in ANSWERS}
+        written = {given.written for given in ANSWERS}
         for number, first, last in (1, 1, 194), (2, 1, 194), (3, 1, 193), (4, 1, 193), (5, 2, 65), (6, 3, 65):
             self.assertLessEqual({(number, first), (number, last)}, read_refusals)
         self.assertLessEqual({(4, 1), (4, 193), (5, 2), (5, 65), (6, 3), (6, 65), (9, 0)}, written)
 
     def test_sizes_the_program_is_made_for(self):
-        self.assertLess(sum(len(site_cases.stored_input(case)) for case in CASES), 400_000)
+        self.assertLess(sum(len(demands.stored_input(case)) for case in CASES), 500_000)
         for case in CASES:
-            self.assertLessEqual(max(len(case.text), case.room), LARGEST_TEXT)
+            self.assertLessEqual(max(len(case.text), case.room, case.plan_room), LARGEST_TEXT)
 
 
 if __name__ == "__main__":

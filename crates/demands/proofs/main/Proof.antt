@@ -1,7 +1,7 @@
--- `site_cases::main` is safe and ends: each turn takes one of the cases that are left. Nothing has to hold from turn to turn.
+-- `demands::main` is safe and ends: each turn takes one of the cases that are left. Nothing has to hold from turn to turn.
 use borrow.Author.Needs.{needs}
-use Rattle.site_cases.proofs.main.Statement.{statement}
-use Rattle.site_cases.proofs.main.Tie as tie
+use Rattle.demands.proofs.main.Statement.{statement}
+use Rattle.demands.proofs.main.Tie as tie
 
 abbrev Inv-loop : tie.InvT-loop
 Inv-loop left₀ left = Unit {0}

@@ -1,7 +1,7 @@
--- `site_cases::patches::read_patches` is safe and ends: each turn takes one of the patches that are left. Nothing has to hold from turn to turn.
+-- `demands::patches::read_patches` is safe and ends: each turn takes one of the patches that are left. Nothing has to hold from turn to turn.
 use borrow.Author.Needs.{needs}
-use Rattle.site_cases.proofs.patches.read_patches.Statement.{statement}
-use Rattle.site_cases.proofs.patches.read_patches.Tie as tie
+use Rattle.demands.proofs.patches.read_patches.Statement.{statement}
+use Rattle.demands.proofs.patches.read_patches.Tie as tie
 
 abbrev Inv-loop : tie.InvT-loop
 Inv-loop count patched₀ left₀ patched left = Unit {0}

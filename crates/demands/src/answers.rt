@@ -1,8 +1,7 @@
 // The answers, on standard output.
-use crate::space;
 use libc::STDOUT_FILENO;
+use planner::Planned;
 use site::Reading;
-use site::Site;
 use site::Verdict;
 use writer::Written;
 ghost use mathlib.Core.Path.{_≡_};
@@ -10,11 +9,11 @@ ghost use Prim.Native.Nat.{_≤_};
 ghost use lib.ListN.{length};
 ghost use Rattle.hexline.specs.Digits.{fieldBytes};
 
-// Prints numbers of the given widths, five bytes at most, as a line of hexadecimal.
+// Prints numbers of the given widths, eight bytes at most, as a line of hexadecimal.
 fn print_line(widths: &[usize], values: &[u64])
-    requires { ⌜ (length (now widths) ≡ length (now values)) × (length (fieldBytes (now widths) (now values)) ≤ 5) ⌝ }
+    requires { ⌜ (length (now widths) ≡ length (now values)) × (length (fieldBytes (now widths) (now values)) ≤ 8) ⌝ }
 {
-    let mut line = [0u8; 11];
+    let mut line = [0u8; 17];
     let n = hexline::put_line(&mut line, 0, widths, values, b"");
     io::write_all(STDOUT_FILENO, &line[..n]);
 }
@@ -50,15 +49,32 @@ pub fn print_part(part: &[u8]) {
     io::write_all(STDOUT_FILENO, b"\n");
 }
 
-// Writes records into a room, and prints the writer's answer: 80, the length and the text, or the
-// refusal.
-fn print_written(site: Site, room: &mut [u8]) {
-    let written = writer::write(site, room);
+// Prints the first bytes of a space as they are; none where it has fewer.
+fn print_first(space: &[u8], n: usize) {
+    if n <= space.len() {
+        io::write_all(STDOUT_FILENO, &space[..n]);
+    }
+}
+
+// Prints the writer's answer: 80, the length and the text, which begins the space, or the refusal.
+pub fn print_written(written: Written, space: &[u8]) {
     match written {
         Written::Refused { number, line } => print_refusal(number, line),
         Written::Length(n) => {
             print_line(&[1, 4], &[0x80, n as u64]);
-            io::write_all(STDOUT_FILENO, &room[..n]);
+            print_first(space, n);
+        }
+    }
+}
+
+// Prints the planner's answer: 80, the length, the order and the plan text, which begins the space,
+// or the refusal.
+pub fn print_planned(planned: Planned, space: &[u8]) {
+    match planned {
+        Planned::Refused { number, line } => print_refusal(number, line),
+        Planned::Plan { length, order } => {
+            print_line(&[1, 4, 1], &[0x80, length as u64, order as u64]);
+            print_first(space, length);
         }
     }
 }
@@ -76,12 +92,12 @@ fn changed(bytes: &[u8]) -> usize {
     count
 }
 
-// Writes records into a room of so many bytes in a space of '.', and prints the writer's answer and
-// how many bytes changed, in the room and behind it.
-pub fn print_writing(site: Site, room: usize)
-    requires { ⌜ room ≤ 16384 ⌝ }
-{
-    let mut bytes = space(b'.');
-    print_written(site, &mut bytes[..room]);
-    print_line(&[4], &[changed(&bytes) as u64]);
+// Prints how many bytes of a space of '.' changed.
+pub fn print_changed(space: &[u8]) {
+    print_line(&[4], &[changed(space) as u64]);
+}
+
+// Prints the number that a client got, and how many bytes of a space of '.' changed.
+pub fn print_number(number: u32, space: &[u8]) {
+    print_line(&[4, 4], &[number as u64, changed(space) as u64]);
 }

@@ -1,10 +1,10 @@
--- `site_cases::answers::print_refusal` is safe: the line that it prints has four bytes.
+-- `demands::answers::print_refusal` is safe: the line that it prints has four bytes.
 use mathlib.Core.Path.{refl}
 use native.Mathlib.Omega.{arith}
 use Rattle.hexline.specs.Digits.{numberBytes, fieldBytes}
 use borrow.Author.Needs.{needs}
-use Rattle.site_cases.proofs.answers.print_refusal.Statement.{statement}
-use Rattle.site_cases.proofs.answers.print_refusal.Tie as tie
+use Rattle.demands.proofs.answers.print_refusal.Statement.{statement}
+use Rattle.demands.proofs.answers.print_refusal.Tie as tie
 
 slice-aggregate-print-line : tie.Need-slice-aggregate-print-line
 slice-aggregate-print-line c = search needs

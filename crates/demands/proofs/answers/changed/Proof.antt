@@ -1,11 +1,11 @@
--- `site_cases::answers::changed` is safe and ends. The invariant: no more bytes are counted than were passed, so the count fits.
+-- `demands::answers::changed` is safe and ends. The invariant: no more bytes are counted than were passed, so the count fits.
 use mathlib.Core.Logic.{⊎-elim}
 use Prim.Native.Nat.{_≤_, _-_}
 use native.Mathlib.Omega.{arith}
 use lib.ListN.{length}
 use borrow.Author.Needs.{needs}
-use Rattle.site_cases.proofs.answers.changed.Statement.{statement}
-use Rattle.site_cases.proofs.answers.changed.Tie as tie
+use Rattle.demands.proofs.answers.changed.Statement.{statement}
+use Rattle.demands.proofs.answers.changed.Tie as tie
 
 abbrev Inv-loop : tie.InvT-loop
 Inv-loop bytes count₀ i₀ count i = (i ≤ length bytes) × (count ≤ i)

@@ -1,9 +1,9 @@
--- `site_cases::next_case` is safe: a text is lent as many bytes as its head says, which the test before keeps within the space.
+-- `demands::next_case` is safe: a text is lent as many bytes as its head says, which the test before keeps within the space.
 use mathlib.Core.Path.{sym}
 use lib.Seq.{length-take-le}
 use borrow.Author.Needs.{needs}
-use Rattle.site_cases.proofs.next_case.Statement.{statement}
-use Rattle.site_cases.proofs.next_case.Tie as tie
+use Rattle.demands.proofs.next_case.Statement.{statement}
+use Rattle.demands.proofs.next_case.Tie as tie
 
 slice-aggregate-read-exactly : tie.Need-slice-aggregate-read-exactly
 slice-aggregate-read-exactly c = search needs

@@ -1,10 +1,10 @@
--- `site_cases::answers::print_reading` is safe: the line that it prints of the counts has three bytes.
+-- `demands::answers::print_reading` is safe: the line that it prints of the counts has three bytes.
 use mathlib.Core.Path.{refl}
 use native.Mathlib.Omega.{arith}
 use Rattle.hexline.specs.Digits.{numberBytes, fieldBytes}
 use borrow.Author.Needs.{needs}
-use Rattle.site_cases.proofs.answers.print_reading.Statement.{statement}
-use Rattle.site_cases.proofs.answers.print_reading.Tie as tie
+use Rattle.demands.proofs.answers.print_reading.Statement.{statement}
+use Rattle.demands.proofs.answers.print_reading.Tie as tie
 
 enum-known-verdict : tie.Need-enum-known-verdict
 enum-known-verdict c = search needs

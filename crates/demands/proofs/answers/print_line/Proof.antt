@@ -1,4 +1,4 @@
--- `site_cases::answers::print_line` is safe: a line of at most five bytes has at most eleven characters, its LF too, and fits the eleven of the buffer.
+-- `demands::answers::print_line` is safe: a line of at most five bytes has at most eleven characters, its LF too, and fits the eleven of the buffer.
 use mathlib.Core.Path.{sym}
 use mathlib.Core.List.{[]}
 use Prim.Native.Nat.{_≤_}
@@ -8,8 +8,8 @@ use lib.Seq.{length-take-le}
 use Rattle.hexline.specs.Digits.{fieldBytes}
 use Rattle.hexline.specs.Room.{fields-line-length}
 use borrow.Author.Needs.{needs}
-use Rattle.site_cases.proofs.answers.print_line.Statement.{statement}
-use Rattle.site_cases.proofs.answers.print_line.Tie as tie
+use Rattle.demands.proofs.answers.print_line.Statement.{statement}
+use Rattle.demands.proofs.answers.print_line.Tie as tie
 
 slice-aggregate-put-line : tie.Need-slice-aggregate-put-line
 slice-aggregate-put-line c = search needs

@@ -1,0 +1,116 @@
+// Runs the clients of all public functions over the cases of standard input, and prints every
+// answer. tests/demands.py says how a case and its answers look.
+mod answers;
+mod clients;
+mod patches;
+mod rooms;
+
+use answers::print_part;
+use answers::print_reading;
+use libc::STDIN_FILENO;
+use patches::read_patches;
+ghost use mathlib.Core.Path.{_≡_};
+ghost use Prim.Native.Nat.{_≤_};
+ghost use lib.ListN.{length};
+
+// The most cases of a run, so that it ends, and the most bytes of a text and of a room.
+const MOST_CASES: usize = 100000;
+
+const MOST_BYTES: usize = 16384;
+
+// What the head line of a case says: how many bytes its text has, the room for a site's text and the
+// room for a plan, which line is asked for, and how many patches follow the text.
+struct Head {
+    text: usize,
+    site_room: usize,
+    plan_room: usize,
+    line: usize,
+    patches: usize,
+}
+
+// The head of a line of 36 digits and LF.
+fn head_of(line: &[u8; 37]) -> Head {
+    Head {
+        text: hexline::number_at(line, 0, 4) as usize,
+        site_room: hexline::number_at(line, 4, 4) as usize,
+        plan_room: hexline::number_at(line, 8, 4) as usize,
+        line: hexline::number_at(line, 12, 4) as usize,
+        patches: hexline::number_at(line, 16, 2) as usize,
+    }
+}
+
+// Space for a text or a room, each byte the same.
+fn space(byte: u8) -> [u8; MOST_BYTES]
+    ensures { λ r. ⌜ 16384 ≡ length r ⌝ }
+{
+    [byte; MOST_BYTES]
+}
+
+// Fills all of `buf` from standard input, and says whether there was enough.
+fn read_exactly(buf: &mut [u8]) -> bool {
+    io::read_full(STDIN_FILENO, buf) == buf.len()
+}
+
+// Runs the clients that take the text, and then those that take its records, which the patches change
+// first.
+fn run_clients(head: Head, text: &[u8])
+    requires { ⌜ (head .«site_room» ≤ 16384) × (head .«plan_room» ≤ 16384) ⌝ }
+{
+    let reading = clients::read_text(text);
+    let line = print_reading(reading);
+    print_part(clients::shown_part(text, head.line));
+    print_part(clients::shown_part(text, line));
+    rooms::run_commission(text, head.plan_room);
+    rooms::run_survey(text, head.plan_room);
+    rooms::run_rewrite(text, head.site_room);
+    let records = read_patches(reading.site, head.patches);
+    rooms::run_plan_records(records, head.plan_room);
+    rooms::run_write_records(records, head.site_room);
+    rooms::run_there_and_back(records, head.site_room);
+}
+
+// Reads the text that a head announces into the space lent, and runs the case. False where the input
+// ends before the patches.
+fn run_case(head: Head, text: &mut [u8]) -> bool
+    requires { ⌜ (head .«site_room» ≤ 16384) × (head .«plan_room» ≤ 16384) ⌝ }
+{
+    let mut lf = [0u8; 1];
+    if !read_exactly(text) {
+        return false;
+    }
+    if !read_exactly(&mut lf) {
+        return false;
+    }
+    run_clients(head, text);
+    true
+}
+
+// Runs the next case. False where there is none, or it asks for a longer text or room than there is
+// space.
+fn next_case() -> bool {
+    let mut line = [0u8; 37];
+    if !read_exactly(&mut line) {
+        return false;
+    }
+    let head = head_of(&line);
+    if head.site_room > MOST_BYTES {
+        return false;
+    }
+    if head.plan_room > MOST_BYTES {
+        return false;
+    }
+    let n = head.text;
+    if n > MOST_BYTES {
+        return false;
+    }
+    let mut text = space(0);
+    run_case(head, &mut text[..n])
+}
+
+// Runs all cases, up to the end of the input.
+fn main() {
+    let mut left = MOST_CASES;
+    while left > 0 && next_case() {
+        left -= 1;
+    }
+}

@@ -1,0 +1,124 @@
+"""The stored input and the stored expected output of the test program demands.
+
+`python3 tests/demands.py input` prints the input, `python3 tests/demands.py output` what the program has
+to print, by reference.py and planning.py.
+
+The input is a sequence of cases. A case is a head line in hexadecimal (text length, room for a site's
+text, room for a plan, line asked for, number of patches), the site text, an LF, and for each patch of the
+records a line (kind, index, place, value); the kinds are the places in FIELDS. The program reads the text,
+shows its parts for the line asked for and for the line of the refusal, plans the text as the commissioning
+and as the survey tool, and writes it back. Then it patches the records that reading gave, plans them,
+writes them, and takes them there and back. Each room is the start of a space of '.', and after each answer
+stands how many bytes of the space changed.
+"""
+
+import struct
+import sys
+from dataclasses import dataclass
+
+import planning
+import reference
+import site_limits
+import site_records
+import site_texts
+from site_building import FIELDS
+
+GROUPS = site_texts.GROUPS + site_limits.GROUPS + site_records.GROUPS
+
+
+def cases():
+    """All cases, always the same."""
+    return [case for group in GROUPS for case in group()]
+
+
+def hex_line(layout, *numbers):
+    return struct.pack(">" + layout, *numbers).hex().upper().encode() + b"\n"
+
+
+def stored_input(case):
+    """A case as the program reads it."""
+    head = hex_line("IIIIH", len(case.text), case.room, case.plan_room, case.line, len(case.patches))
+    return head + case.text + b"\n" + b"".join(hex_line("BBBI", *patch) for patch in case.patches)
+
+
+def patched(site, patches):
+    """The records with fields set anew, one patch after another."""
+    for kind, index, place, value in patches:
+        name = FIELDS[kind].replace(" ", "_")
+        if name in ("cluster_count", "flow_count"):
+            setattr(site, name, value)
+        elif name in ("parent", "order", "tag_length"):
+            setattr(site.clusters[index], name, value)
+        elif name == "tag_byte":
+            site.clusters[index].tag[place] = value
+        else:
+            setattr(site.flows[index], name, value)
+    return site
+
+
+@dataclass(frozen=True)
+class Answers:
+    """What the clients get: of the text first, then of the patched records."""
+    read: object         # the reader's refusal, or the two counts
+    commissioned: tuple  # the number, and the bytes that were written
+    rewritten: tuple     # the same
+    planned: object      # the planner's refusal, or the plan text
+    written: object      # the writer's refusal, or the text
+    back: object         # the writer's refusal, or the two counts that reading its text gives
+
+
+def refusal_or_counts(site):
+    return site if isinstance(site, tuple) else bytes([site.cluster_count, site.flow_count])
+
+
+def number_of(answer):
+    """A refusal or a text as the C functions give it, and the bytes that they write."""
+    if isinstance(answer, tuple):
+        return 65_536 * answer[0] + answer[1], b""
+    return len(answer), answer
+
+
+def answers(case):
+    """What the clients get for a case."""
+    site = reference.read(case.text)
+    refused = isinstance(site, tuple)
+    read = refusal_or_counts(site)
+    rewritten = number_of(site if refused else reference.write(site, case.room))
+    records = patched(reference.Site() if refused else site, case.patches)
+    written = reference.write(records, case.room)
+    back = written if isinstance(written, tuple) else refusal_or_counts(reference.read(written))
+    return Answers(read, planning.plan(case.text, case.plan_room), rewritten,
+                   planning.plan_records(records, case.plan_room), written, back)
+
+
+def counts_printed(answer):
+    """A refusal, or 80 and the two counts."""
+    return hex_line("BBH", 0x8F, *answer) if isinstance(answer, tuple) else hex_line("BBB", 0x80, *answer)
+
+
+def text_printed(answer, *order):
+    """A refusal, or 80, the length, the order of a plan and the text; and how many bytes changed."""
+    if isinstance(answer, tuple):
+        return hex_line("BBH", 0x8F, *answer) + hex_line("I", 0)
+    head = hex_line("BI" + "B" * len(order), 0x80, len(answer), *order)
+    return head + answer + hex_line("I", len(answer))
+
+
+def expected_output(case):
+    """What the program prints for a case."""
+    given = answers(case)
+    printed = counts_printed(given.read)
+    for line in case.line, given.read[1] if isinstance(given.read, tuple) else 0:
+        printed += reference.shown(case.text, line) + b"\n"
+    for number, written in given.commissioned, given.commissioned, given.rewritten:
+        printed += hex_line("II", number, len(written))
+    order = () if isinstance(given.planned, tuple) else (int(given.planned[4:6], 16),)
+    printed += text_printed(given.planned, *order) + text_printed(given.written)
+    changed = 0 if isinstance(given.written, tuple) else len(given.written)
+    return printed + counts_printed(given.back) + hex_line("I", changed)
+
+
+if __name__ == "__main__":
+    printed_for = {"input": stored_input, "output": expected_output}[sys.argv[1]]
+    for case in cases():
+        sys.stdout.buffer.write(printed_for(case))
