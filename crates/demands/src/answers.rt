@@ -1,4 +1,5 @@
 // The answers, on standard output.
+use crate::MOST_BYTES;
 use libc::STDOUT_FILENO;
 use planner::Planned;
 use site::Reading;
@@ -49,15 +50,15 @@ pub fn print_part(part: &[u8]) {
     io::write_all(STDOUT_FILENO, b"\n");
 }
 
-// Prints the first bytes of a space as they are; none where it has fewer.
-fn print_first(space: &[u8], n: usize) {
-    if n <= space.len() {
-        io::write_all(STDOUT_FILENO, &space[..n]);
+// Prints the first n bytes of these as they are; none where there are fewer.
+fn print_first(bytes: &[u8], n: usize) {
+    if n <= bytes.len() {
+        io::write_all(STDOUT_FILENO, &bytes[..n]);
     }
 }
 
 // Prints the writer's answer: 80, the length and the text, which begins the space, or the refusal.
-pub fn print_written(written: Written, space: &[u8]) {
+pub fn print_written(written: Written, space: &[u8; MOST_BYTES]) {
     match written {
         Written::Refused { number, line } => print_refusal(number, line),
         Written::Length(n) => {
@@ -69,7 +70,7 @@ pub fn print_written(written: Written, space: &[u8]) {
 
 // Prints the planner's answer: 80, the length, the order and the plan text, which begins the space,
 // or the refusal.
-pub fn print_planned(planned: Planned, space: &[u8]) {
+pub fn print_planned(planned: Planned, space: &[u8; MOST_BYTES]) {
     match planned {
         Planned::Refused { number, line } => print_refusal(number, line),
         Planned::Plan { length, order } => {
@@ -79,12 +80,12 @@ pub fn print_planned(planned: Planned, space: &[u8]) {
     }
 }
 
-// How many bytes are not '.'.
-fn changed(bytes: &[u8]) -> usize {
+// How many bytes of a space are not '.'.
+fn changed(space: &[u8; MOST_BYTES]) -> usize {
     let mut count: usize = 0;
     let mut i: usize = 0;
-    while i < bytes.len() {
-        if bytes[i] != b'.' {
+    while i < MOST_BYTES {
+        if space[i] != b'.' {
             count += 1;
         }
         i += 1;
@@ -93,11 +94,11 @@ fn changed(bytes: &[u8]) -> usize {
 }
 
 // Prints how many bytes of a space of '.' changed.
-pub fn print_changed(space: &[u8]) {
+pub fn print_changed(space: &[u8; MOST_BYTES]) {
     print_line(&[4], &[changed(space) as u64]);
 }
 
 // Prints the number that a client got, and how many bytes of a space of '.' changed.
-pub fn print_number(number: u32, space: &[u8]) {
+pub fn print_number(number: u32, space: &[u8; MOST_BYTES]) {
     print_line(&[4, 4], &[number as u64, changed(space) as u64]);
 }

@@ -23,6 +23,9 @@ returns-2 c = search needs
 returns-3 : tie.Need-returns-3
 returns-3 c = search needs
 
+returns-4 : tie.Need-returns-4
+returns-4 c = search needs
+
 space-requires : tie.Need-space-requires
 space-requires c κs = search needs
 
@@ -35,8 +38,8 @@ slice-aggregate-run-case c = sym (length-take-le _ _ (array-borrow-prefix-text (
 run-case-requires : tie.Need-run-case-requires
 run-case-requires c κs = search needs
 
-returns-4 : tie.Need-returns-4
-returns-4 c = search needs
+returns-5 : tie.Need-returns-5
+returns-5 c = search needs
 
 pub next-case-spec : {M : Type 1} → statement M
 next-case-spec =
@@ -48,8 +51,9 @@ next-case-spec =
     head-of-requires
     returns-2
     returns-3
+    returns-4
     space-requires
     array-borrow-prefix-text
     slice-aggregate-run-case
     run-case-requires
-    returns-4)
+    returns-5)

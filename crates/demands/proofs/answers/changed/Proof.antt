@@ -2,22 +2,21 @@
 use mathlib.Core.Logic.{⊎-elim}
 use Prim.Native.Nat.{_≤_, _-_}
 use native.Mathlib.Omega.{arith}
-use lib.ListN.{length}
 use borrow.Author.Needs.{needs}
 use Rattle.demands.proofs.answers.changed.Statement.{statement}
 use Rattle.demands.proofs.answers.changed.Tie as tie
 
 abbrev Inv-loop : tie.InvT-loop
-Inv-loop bytes count₀ i₀ count i = (i ≤ length bytes) × (count ≤ i)
+Inv-loop space count₀ i₀ count i = (i ≤ 16384) × (count ≤ i)
 
 abbrev μ-loop : tie.MeasureT-loop
-μ-loop bytes count₀ i₀ count i = length bytes - i
+μ-loop space count₀ i₀ count i = 16384 - i
 
 loop-holds : tie.Need-loop-holds Inv-loop μ-loop
 loop-holds c = search needs
 
-shared-slice-read-if1 : tie.Need-shared-slice-read-if1 Inv-loop μ-loop
-shared-slice-read-if1 c = search needs
+element-copy-out-if1 : tie.Need-element-copy-out-if1 Inv-loop μ-loop
+element-copy-out-if1 c = search needs
 
 add-count : tie.Need-add-count Inv-loop μ-loop
 add-count c = search needs
@@ -41,7 +40,7 @@ changed-spec =
     Inv-loop
     μ-loop
     loop-holds
-    shared-slice-read-if1
+    element-copy-out-if1
     add-count
     add-i
     loop-less

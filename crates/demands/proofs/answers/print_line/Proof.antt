@@ -1,4 +1,4 @@
--- `demands::answers::print_line` is safe: a line of at most five bytes has at most eleven characters, its LF too, and fits the eleven of the buffer.
+-- `demands::answers::print_line` is safe: a line of at most eight bytes has at most seventeen characters, its LF too, and fits the seventeen of the buffer.
 use mathlib.Core.Path.{sym}
 use mathlib.Core.List.{[]}
 use Prim.Native.Nat.{_≤_}
