@@ -9,7 +9,7 @@ use Prim.Native.Nat.{ℕ, _+_, _*_, _≤_, _<_}
 use native.Mathlib.Omega.{arith}
 use lib.Dec.{eqb}
 use lib.ListN.{length}
-use borrow.Author.Tests.{eqb-false}
+use borrow.Author.Tests.{eqb-true, eqb-false}
 use Rattle.hexline.specs.Lines.{Row, rows}
 use Rattle.hexline.specs.Loops.{decide}
 use Rattle.model.specs.Exactness.{Placeable, Late, Misfit}
@@ -28,7 +28,7 @@ use Rattle.commission.specs.Numbers.{numberOf, planNumber, planRoom}
 use Rattle.commission.specs.SmallRefusals.{Small, text-refusal-small}
 use Rattle.roundtrip.specs.WriteOfRead.{write-of-read}
 use Rattle.exactness.specs.PlanSize.{planSize, plan-size-at-most}
-use Rattle.exactness.specs.PlannerExact.{PlanIn, refuses as answersRefusal, plans as answersPlan, short as answersShort, late as answersLate, misfit as answersMisfit, planner-answered, placeable-not-late, late-not-misfit, placeable-not-misfit}
+use Rattle.exactness.specs.PlannerExact.{PlanIn, Taken, ExactAnswer, accepted-or-refused, placeable-not-late, late-not-misfit, placeable-not-misfit, planner-is-exact}
 
 -- ---- the statement
 
@@ -44,6 +44,8 @@ pub record ExactNumber (text before : List ℕ) (n : ℕ) (after : List ℕ) : T
   pub short-exactly : (n ≡ 65536 * 9) ↔ ((s : Site) × Reads text s × Placeable (siteOf s) × (length before < planSize s))
   pub late-exactly : (n ≡ 65536 * 8) ↔ ((s : Site) × Reads text s × Late (siteOf s))
   pub misfit-exactly : (n ≡ 65536 * 7) ↔ ((s : Site) × Reads text s × Misfit (siteOf s))
+  -- no other refusal is given
+  pub refusal-known : 65536 ≤ n → (number line : ℕ) × (n ≡ 65536 * number + line) × (1 ≤ number) × (number ≤ 9) × (line ≤ 194)
   pub refusal-writes-nothing : 65536 ≤ n → after ≡ before
 
 -- ---- the reader refuses by a number from 1 on
@@ -79,38 +81,55 @@ pub data Returned (text before : List ℕ) (n : ℕ) (after : List ℕ) : Type 0
   late : (s : Site) → Reads text s → Late (siteOf s) → n ≡ 65536 * 8 → after ≡ before → Returned text before n after
   misfit : (s : Site) → Reads text s → Misfit (siteOf s) → n ≡ 65536 * 7 → after ≡ before → Returned text before n after
 
-module _ (text room : List ℕ) where
-  abbrev number : ℕ
-  number = planNumber text (length room)
+-- a text that reads, and the planner's answer to its records
+module _ (text before : List ℕ) (s : Site) (read : Reads text s) where
+  abbrev taken : Taken s
+  taken = write-of-read text s read .0
 
-  -- a text that reads
-  module _ (s : Site) (read : Reads text s) where
-    number-of-answer : (a : Planned) → answer s (length room) ≡ a → number ≡ numberOf (plannedSays a)
-    unfolding planNumber
-    number-of-answer a e = rw (read, e)
-
-    room-of-answer : planRoom text room ≡ roomAfter s room
-    unfolding planRoom
-    room-of-answer = rw read
-
-    returned-by-answer : Returned text room number (planRoom text room)
-    returned-by-answer = let taken = write-of-read text s read .0 in elim (planner-answered s room) [
-      | answersRefusal m k c h is same ↦ absurd (let z : _≡_ {A = ℕ} 0 1 = cc in omega arith)
-      | answersPlan len order a p fits plan is ↦
-          let n : number ≡ len = number-of-answer (Plan len order) is in
-          plans s order read p fits (rw (n, room-of-answer) plan) (omega (arith, plan .size, plan-size-at-most s taken))
-      | answersShort a p less is same ↦ short s read p less (number-of-answer (RefusedPlan 9 0) is) (room-of-answer ∙ same)
-      | answersLate a l is same ↦ late s read l (number-of-answer (RefusedPlan 8 0) is) (room-of-answer ∙ same)
-      | answersMisfit a m is same ↦ misfit s read m (number-of-answer (RefusedPlan 7 0) is) (room-of-answer ∙ same)
+  module _ (r : Planned) (after : List ℕ) (exact : ExactAnswer s before r after) where
+    -- a refusal of its records is 7, 8 or 9 with line 0
+    pub answer-refusal : (m k : ℕ) → r ≡ RefusedPlan m k → (7 ≤ m) × (m ≤ 9) × (k ≡ 0)
+    answer-refusal m k is = elim (exact .refusal-known m k is) [
+      | inl h ↦ accepted-or-refused s m k taken (exact .refused-exactly m k (h .0) (h .1) .0 is)
+      | inr h ↦ h
     ]
 
-  pub caller-returned : Returned text room number (planRoom text room)
-  unfolding planNumber planRoom
-  caller-returned = by-verdict (readText text .verdict) refl
-    where
-      by-verdict : (v : Verdict) → readText text .verdict ≡ v → Returned text room number (planRoom text room)
-      by-verdict (Refused m k) e = refuses m k e (refusal-in-range text m k e) (rw e) (rw e)
-      by-verdict Accepted e = returned-by-answer (readText text .site) (λ i. record { site = readText text .site; verdict = e i })
+    refusal-returned : (m k : ℕ) → r ≡ RefusedPlan m k → Returned text before (65536 * m + k) after
+    refusal-returned m k is =
+        let h = answer-refusal m k is in
+        let same = exact .refusal-writes-nothing m k is in
+        elim (decide (eqb m 7)) [
+          | inl e ↦ let q = eqb-true m 7 e in misfit s read (exact .misfit-exactly .0 (cc) .1) (omega arith) same
+          | inr e ↦ elim (decide (eqb m 8)) [
+            | inl f ↦ let q = eqb-true m 8 f in late s read (exact .late-exactly .0 (cc) .1) (omega arith) same
+            | inr f ↦
+                let q : m ≡ 9 = omega (arith, eqb-false m 7 e, eqb-false m 8 f) in
+                let w = exact .short-exactly .0 (cc) in
+                short s read (w .1) (w .2) (omega arith) same
+          ]
+        ]
+
+    plan-returned : (len order : ℕ) → r ≡ Plan len order → Returned text before len after
+    plan-returned len order is =
+        let w = exact .planned-exactly .0 (len, order, is) in
+        let plan = exact .plan-is-placing len order is in
+        plans s order read (w .1) (w .2) plan (omega (arith, plan .size, plan-size-at-most s taken))
+
+  pub returned-by-answer : (r : Planned) (after : List ℕ) → ExactAnswer s before r after → Returned text before (numberOf (plannedSays r)) after
+  returned-by-answer (Plan len order) after exact = plan-returned (Plan len order) after exact len order refl
+  returned-by-answer (RefusedPlan m k) after exact = refusal-returned (RefusedPlan m k) after exact m k refl
+
+pub returned-by-reader : (text room : List ℕ) (m k : ℕ) → readText text .verdict ≡ Refused m k → Returned text room (65536 * m + k) room
+returned-by-reader text room m k e = refuses m k e (refusal-in-range text m k e) refl refl
+
+caller-returned : (text room : List ℕ) → Returned text room (planNumber text (length room)) (planRoom text room)
+unfolding planNumber planRoom
+caller-returned text room = by-verdict (readText text .verdict) refl
+  where
+    by-verdict : (v : Verdict) → readText text .verdict ≡ v → Returned text room (planNumber text (length room)) (planRoom text room)
+    by-verdict (Refused m k) e = rw e (returned-by-reader text room m k e)
+    by-verdict Accepted e = let s : Site = readText text .site in
+        rw e (returned-by-answer text room s (λ i. record { site = s; verdict = e i }) (answer s (length room)) (roomAfter s room) (planner-is-exact s room))
 
 -- ---- and each exactly where it should
 
@@ -118,7 +137,7 @@ module _ (text : List ℕ) where
   same-site : (s t : Site) → Reads text s → Reads text t → s ≡ t
   same-site s t p q = ap (λ (r : Reading). r .site) (sym p ∙ q)
 
-  reads-or-refused : {A : Type 0} (s : Site) (m k : ℕ) → Reads text s → readText text .verdict ≡ Refused m k → A
+  pub reads-or-refused : {A : Type 0} (s : Site) (m k : ℕ) → Reads text s → readText text .verdict ≡ Refused m k → A
   reads-or-refused s m k p e = absurd (let q = ap (λ (r : Reading). r .verdict) p in let z : _≡_ {A = ℕ} 0 1 = cc in omega arith)
 
 module _ (text before : List ℕ) (n : ℕ) (after : List ℕ) (returned : Returned text before n after) where
@@ -211,6 +230,13 @@ module _ (text before : List ℕ) (n : ℕ) (after : List ℕ) (returned : Retur
         | misfit s read m is same ↦ is
       ],
     );
+    refusal-known = λ large. elim returned [
+      | refuses m k v limits is same ↦ (m, k, is, omega arith, omega arith, limits .2)
+      | plans s order read p fits plan most ↦ absurd (omega arith)
+      | short s read p less is same ↦ (9, 0, is, omega arith, omega arith, omega arith)
+      | late s read l is same ↦ (8, 0, is, omega arith, omega arith, omega arith)
+      | misfit s read m is same ↦ (7, 0, is, omega arith, omega arith, omega arith)
+    ];
     refusal-writes-nothing = λ large. elim returned [
       | refuses m k v limits is same ↦ same
       | plans s order read p fits plan most ↦ absurd (omega arith)

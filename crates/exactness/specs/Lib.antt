@@ -8,5 +8,6 @@ pub mod PlanSize
 -- the theorems: the planner and the C caller's number are exact, no impostor meets the contract, and a contract allows one result
 pub mod PlannerExact
 pub mod CallerExact
+pub mod RewriteExact
 pub mod Impostors
 pub mod EqualResults

@@ -5,7 +5,7 @@
 use mathlib.Core.Path.{_≡_, refl, sym, ap, _∙_, subst}
 use mathlib.Core.Bool.{true, false}
 use mathlib.Core.List.{List, _++_}
-use mathlib.Core.Logic.{_↔_, inl, inr}
+use mathlib.Core.Logic.{_↔_, _⊎_, inl, inr}
 use Prim.Native.Nat.{ℕ, suc, _≤_, _<_}
 use native.Mathlib.Omega.{arith}
 use lib.Dec.{leb}
@@ -68,6 +68,8 @@ pub record ExactAnswer (s : Site) (before : List ℕ) (r : Planned) (after : Lis
   pub short-exactly : (r ≡ RefusedPlan 9 0) ↔ (Taken s × Placeable (siteOf s) × (length before < planSize s))
   pub late-exactly : (r ≡ RefusedPlan 8 0) ↔ (Taken s × Late (siteOf s))
   pub misfit-exactly : (r ≡ RefusedPlan 7 0) ↔ (Taken s × Misfit (siteOf s))
+  -- no other refusal is given
+  pub refusal-known : (number line : ℕ) → r ≡ RefusedPlan number line → ((4 ≤ number) × (number ≤ 6)) ⊎ ((7 ≤ number) × (number ≤ 9) × (line ≡ 0))
   pub refusal-writes-nothing : (number line : ℕ) → r ≡ RefusedPlan number line → after ≡ before
 
 -- ---- one of five comes back
@@ -125,7 +127,7 @@ module _ (s : Site) (accepted : Taken s) where
           | inr f ↦ let less = leb-false (length text) (length room) f in short accepted placeable (omega arith) (rw (accepted, e, f)) (rw (accepted, e, f))
         ]
 
-pub planner-answered : (s : Site) (room : List ℕ) → Answered s room (answer s (length room)) (roomAfter s room)
+planner-answered : (s : Site) (room : List ℕ) → Answered s room (answer s (length room)) (roomAfter s room)
 unfolding answer roomAfter
 planner-answered s room = by-verdict (checked s) refl
   where
@@ -136,7 +138,7 @@ planner-answered s room = by-verdict (checked s) refl
 -- ---- and each exactly where it should
 
 module _ (s : Site) where
-  accepted-or-refused : {A : Type 0} (number line : ℕ) → Taken s → checked s ≡ Refused number line → A
+  pub accepted-or-refused : {A : Type 0} (number line : ℕ) → Taken s → checked s ≡ Refused number line → A
   accepted-or-refused number line a e = absurd (let z : _≡_ {A = ℕ} 0 1 = cc in omega arith)
 
   pub placeable-not-late : {A : Type 0} → Placeable (siteOf s) → Late (siteOf s) → A
@@ -241,6 +243,13 @@ module _ (s : Site) (before : List ℕ) (r : Planned) (after : List ℕ) (answer
         | misfit a m is same ↦ is
       ],
     );
+    refusal-known = λ number line e. elim answered [
+      | refuses m k c h is same ↦ let q : m ≡ number = cc in inl (omega arith)
+      | plans len order a p fits text is ↦ absurd (let z : _≡_ {A = ℕ} 0 1 = cc in omega arith)
+      | short a p less is same ↦ let q : number ≡ 9 = cc in let l : line ≡ 0 = cc in inr (omega arith, omega arith, l)
+      | late a l is same ↦ let q : number ≡ 8 = cc in let z : line ≡ 0 = cc in inr (omega arith, omega arith, z)
+      | misfit a m is same ↦ let q : number ≡ 7 = cc in let z : line ≡ 0 = cc in inr (omega arith, omega arith, z)
+    ];
     refusal-writes-nothing = λ number line e. elim answered [
       | refuses m k c h is same ↦ same
       | plans len order a p fits text is ↦ absurd (let z : _≡_ {A = ℕ} 0 1 = cc in omega arith)

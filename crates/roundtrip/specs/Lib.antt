@@ -5,6 +5,7 @@ pub mod LinesAgain
 pub mod ReadOfWrite
 pub mod WriteOfRead
 pub mod AcceptedExactly
+pub mod WriterExact
 pub mod LongestSite
 pub mod FirstBytes
 pub mod Tags
