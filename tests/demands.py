@@ -16,6 +16,8 @@ import struct
 import sys
 from dataclasses import dataclass
 
+import plan_limits
+import plan_records
 import planning
 import reference
 import site_limits
@@ -23,7 +25,8 @@ import site_records
 import site_texts
 from site_building import FIELDS
 
-GROUPS = site_texts.GROUPS + site_limits.GROUPS + site_records.GROUPS
+GROUPS = (site_texts.GROUPS + site_limits.GROUPS + site_records.GROUPS + plan_limits.GROUPS
+          + plan_records.GROUPS)
 
 
 def cases():
@@ -78,16 +81,19 @@ def number_of(answer):
     return len(answer), answer
 
 
+def records_of(case):
+    """The records that reading gives, all zero after a refusal, with the case's patches."""
+    site = reference.read(case.text)
+    return patched(reference.Site() if isinstance(site, tuple) else site, case.patches)
+
+
 def answers(case):
     """What the clients get for a case."""
-    site = reference.read(case.text)
-    refused = isinstance(site, tuple)
-    read = refusal_or_counts(site)
-    rewritten = number_of(site if refused else reference.write(site, case.room))
-    records = patched(reference.Site() if refused else site, case.patches)
+    site, records = reference.read(case.text), records_of(case)
+    rewritten = site if isinstance(site, tuple) else reference.write(site, case.room)
     written = reference.write(records, case.room)
     back = written if isinstance(written, tuple) else refusal_or_counts(reference.read(written))
-    return Answers(read, planning.plan(case.text, case.plan_room), rewritten,
+    return Answers(refusal_or_counts(site), planning.plan(case.text, case.plan_room), number_of(rewritten),
                    planning.plan_records(records, case.plan_room), written, back)
 
 

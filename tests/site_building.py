@@ -3,7 +3,7 @@
 import struct
 from dataclasses import dataclass
 
-LARGEST_TEXT = 16_384
+LARGEST_TEXT = 12_288
 LARGEST_NUMBER = 4_294_967_295
 FIELDS = ("cluster count", "flow count", "parent", "order", "tag length", "tag byte",
           "source", "sink", "period", "deadline")

@@ -1,16 +1,24 @@
-"""Checks reference.py against document 01's worked rows, its sizes, and what the cases state.
+"""Checks reference.py against document 01's worked rows, its sizes, and what the cases of demands.py state.
 
 Run by `python3 -m unittest discover tests`.
 """
 
 import unittest
+from collections import Counter
 
 import demands
+from planning import is_placing
 from reference import lines, read, shown, write
 from site_building import LARGEST_NUMBER, LARGEST_TEXT, LONGEST, OPEN, P3, pair, text_of
 
 CASES = demands.cases()
 ANSWERS = [demands.answers(case) for case in CASES]
+
+
+def order_and_starts(planned):
+    """What a plan text says: the order, and in order of start each cluster with its start."""
+    first, *others = [bytes.fromhex(line.decode()) for line in planned.splitlines()]
+    return first[2], tuple((line[1], int.from_bytes(line[2:6], "big")) for line in others)
 
 
 class WorkedRows(unittest.TestCase):
@@ -48,9 +56,14 @@ class Sizes(unittest.TestCase):
 class Cases(unittest.TestCase):
     def test_answers_are_those_stated(self):
         for case, given in zip(CASES, ANSWERS):
-            if case.reads != OPEN:
-                self.assertEqual(case.reads, given.read if isinstance(given.read, tuple) else None, case)
-                self.assertEqual(case.writes, given.written, case)
+            planned = given.planned
+            if isinstance(planned, bytes):
+                order, starts = order_and_starts(planned)
+                planned = order, tuple(cluster for cluster, _ in starts)
+            for stated, answer in ((case.reads, given.read if isinstance(given.read, tuple) else None),
+                                   (case.writes, given.written), (case.plans, planned)):
+                if stated != OPEN:
+                    self.assertEqual(stated, answer, case)
 
     def test_accepted_text_is_written_back(self):
         for case, given in zip(CASES, ANSWERS):
@@ -62,15 +75,31 @@ class Cases(unittest.TestCase):
             if isinstance(given.written, bytes):
                 self.assertEqual(write(read(given.written), LARGEST_TEXT), given.written)
 
+    def test_plans_are_placings(self):
+        for case, given in zip(CASES, ANSWERS):
+            if isinstance(given.planned, bytes):
+                order, starts = order_and_starts(given.planned)
+                self.assertTrue(is_placing(demands.records_of(case), order, [start for _, start in sorted(starts)]))
+
+    def test_no_refusal_of_records_and_no_order_is_rare(self):
+        refusals = Counter(given.planned[0] for given in ANSWERS if isinstance(given.planned, tuple))
+        orders = Counter(order_and_starts(given.planned)[0] for given in ANSWERS if isinstance(given.planned, bytes))
+        self.assertEqual((set(refusals), set(orders)), (set(range(4, 10)), set(range(15))))
+        self.assertGreaterEqual(min(refusals.values()), 30)
+        self.assertGreaterEqual(min(orders.values()), 5)
+
     def test_every_refusal_at_its_first_and_last_line(self):
         read_refusals = {given.read for given in ANSWERS}
-        written = {given.written for given in ANSWERS}
+        written, planned = {given.written for given in ANSWERS}, {given.planned for given in ANSWERS}
         for number, first, last in (1, 1, 194), (2, 1, 194), (3, 1, 193), (4, 1, 193), (5, 2, 65), (6, 3, 65):
             self.assertLessEqual({(number, first), (number, last)}, read_refusals)
-        self.assertLessEqual({(4, 1), (4, 193), (5, 2), (5, 65), (6, 3), (6, 65), (9, 0)}, written)
+        of_records = {(4, 1), (4, 193), (5, 2), (5, 65), (6, 3), (6, 65), (9, 0)}
+        self.assertLessEqual(of_records, written)
+        self.assertLessEqual(of_records | {(7, 0), (8, 0)}, planned)
 
     def test_sizes_the_program_is_made_for(self):
-        self.assertLess(sum(len(demands.stored_input(case)) for case in CASES), 500_000)
+        stored = sum(len(demands.stored_input(case)) + len(demands.expected_output(case)) for case in CASES)
+        self.assertLess(stored, 1_200_000)
         for case in CASES:
             self.assertLessEqual(max(len(case.text), case.room, case.plan_room), LARGEST_TEXT)
 

@@ -81,8 +81,8 @@ pub fn print_planned(planned: Planned, space: &[u8; MOST_BYTES]) {
 }
 
 // How many bytes of a space are not '.'.
-fn changed(space: &[u8; MOST_BYTES]) -> usize {
-    let mut count: usize = 0;
+fn changed(space: &[u8; MOST_BYTES]) -> u16 {
+    let mut count: u16 = 0;
     let mut i: usize = 0;
     while i < MOST_BYTES {
         if space[i] != b'.' {

@@ -1,4 +1,5 @@
-// Clients of the public functions: each calls them as a tool would.
+// Clients of the public functions: each calls them as a tool would, and promises what the tool's
+// owner was promised.
 use planner::Planned;
 use site::Cluster;
 use site::Flow;
@@ -7,51 +8,81 @@ use site::Site;
 use site::Tag;
 use site::Verdict;
 use writer::Written;
+ghost use mathlib.Core.Path.{_≡_};
+ghost use Prim.Native.Nat.{_+_, _*_, _≤_};
+ghost use Rattle.site.specs.Reading.{refused as refusedAs};
+ghost use Rattle.roundtrip.specs.WriterExact.{ExactWriting};
+ghost use Rattle.exactness.specs.CallerExact.{ExactNumber};
+ghost use Rattle.exactness.specs.PlannerExact.{ExactAnswer};
+ghost use Rattle.exactness.specs.RewriteExact.{ExactRewrite};
+ghost use Rattle.demands.specs.Demands.{Surveyed, BackAgain, LineShown};
 
 // The commissioning tool's way: a site's text and a room in, one number out.
-pub fn commission(text: &[u8], room: &mut [u8]) -> u32 {
+pub fn commission(text: &[u8], room: &mut [u8]) -> u32
+    ensures { λ r. ⌜ ExactNumber (now (text .entry)) (now (room .entry)) r (now (room .exit)) ⌝ }
+{
     commission::cartheron_plan(text, room)
 }
 
 // The survey tool's reading.
-pub fn read_text(text: &[u8]) -> Reading {
+pub fn read_text(text: &[u8]) -> Reading
+    ensures { λ r. ⌜ Surveyed (now (text .entry)) r ⌝ }
+{
     site::read(text)
 }
 
 // The planner on records, which may be anything.
-pub fn plan_records(site: Site, room: &mut [u8]) -> Planned {
+pub fn plan_records(site: Site, room: &mut [u8]) -> Planned
+    ensures { λ r. ⌜ ExactAnswer site (now (room .entry)) r (now (room .exit)) ⌝ }
+{
     planner::plan(site, room)
 }
 
 // The writer on records, which may be anything.
-pub fn write_records(site: Site, room: &mut [u8]) -> Written {
+pub fn write_records(site: Site, room: &mut [u8]) -> Written
+    ensures { λ r. ⌜ ExactWriting site (now (room .entry)) r (now (room .exit)) ⌝ }
+{
     writer::write(site, room)
+}
+
+// A refusal as the commissioning tool has it.
+fn one_number(number: u8, line: usize) -> u32
+    requires { ⌜ line ≤ 194 ⌝ }
+    ensures { λ r. ⌜ r ≡ 65536 * number + line ⌝ }
+{
+    65536 * (number as u32) + line as u32
 }
 
 // The survey tool's way with the same text: read it, and hand the records to the planner. The number
 // is that of `commission`.
-pub fn survey(text: &[u8], room: &mut [u8]) -> u32 {
+pub fn survey(text: &[u8], room: &mut [u8]) -> u32
+    ensures { λ r. ⌜ ExactNumber (now (text .entry)) (now (room .entry)) r (now (room .exit)) ⌝ }
+{
     let reading = read_text(text);
     let verdict = reading.verdict;
     match verdict {
-        Verdict::Refused { number, line } => 65536 * (number as u32) + line as u32,
+        Verdict::Refused { number, line } => one_number(number, line),
         Verdict::Accepted => {
             let planned = plan_records(reading.site, room);
             match planned {
                 Planned::Plan { length, order: _ } => length as u32,
-                Planned::Refused { number, line } => 65536 * (number as u32) + line as u32,
+                Planned::Refused { number, line } => one_number(number, line),
             }
         }
     }
 }
 
 // A text there and back by the C function.
-pub fn rewrite(text: &[u8], room: &mut [u8]) -> u32 {
+pub fn rewrite(text: &[u8], room: &mut [u8]) -> u32
+    ensures { λ r. ⌜ ExactRewrite (now (text .entry)) (now (room .entry)) r (now (room .exit)) ⌝ }
+{
     commission::cartheron_rewrite(text, room)
 }
 
 // A reading of records that are all zero, with this refusal.
-fn refused(number: u8, line: usize) -> Reading {
+fn refused(number: u8, line: usize) -> Reading
+    ensures { λ r. ⌜ r ≡ refusedAs number line ⌝ }
+{
     let tag = Tag {
         bytes: [0; 64],
         len: 0,
@@ -81,7 +112,9 @@ fn refused(number: u8, line: usize) -> Reading {
 
 // Records there and back: written into the room, and what was written read again. After a refusal by
 // the writer: its refusal, and records all zero.
-pub fn there_and_back(site: Site, room: &mut [u8]) -> Reading {
+pub fn there_and_back(site: Site, room: &mut [u8]) -> Reading
+    ensures { λ r. ⌜ BackAgain site (now (room .entry)) r (now (room .exit)) ⌝ }
+{
     let written = write_records(site, room);
     match written {
         Written::Length(n) => read_text(&room[..n]),
@@ -90,7 +123,9 @@ pub fn there_and_back(site: Site, room: &mut [u8]) -> Reading {
 }
 
 // The part of a text shown for a line, by the two C functions.
-pub fn shown_part(text: &[u8], line: usize) -> &[u8] {
+pub fn shown_part(text: &[u8], line: usize) -> &[u8]
+    ensures { λ r. ⌜ LineShown (text .entry) r line ⌝ }
+{
     let start = commission::cartheron_line_start(text, line);
     let length = commission::cartheron_line_length(text, line);
     &text[start..start + length]

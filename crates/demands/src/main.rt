@@ -16,7 +16,7 @@ ghost use lib.ListN.{length};
 // The most cases of a run, so that it ends, and the most bytes of a text and of a room.
 const MOST_CASES: usize = 100000;
 
-const MOST_BYTES: usize = 16384;
+const MOST_BYTES: usize = 12288;
 
 // What the head line of a case says: how many bytes its text has, the room for a site's text and the
 // room for a plan, which line is asked for, and how many patches follow the text.
@@ -41,7 +41,7 @@ fn head_of(line: &[u8; 37]) -> Head {
 
 // Space for a text or a room, each byte the same.
 fn space(byte: u8) -> [u8; MOST_BYTES]
-    ensures { λ r. ⌜ 16384 ≡ length r ⌝ }
+    ensures { λ r. ⌜ 12288 ≡ length r ⌝ }
 {
     [byte; MOST_BYTES]
 }
@@ -54,7 +54,7 @@ fn read_exactly(buf: &mut [u8]) -> bool {
 // Runs the clients that take the text, and then those that take its records, which the patches change
 // first.
 fn run_clients(head: Head, text: &[u8])
-    requires { ⌜ (head .«site_room» ≤ 16384) × (head .«plan_room» ≤ 16384) ⌝ }
+    requires { ⌜ (head .«site_room» ≤ 12288) × (head .«plan_room» ≤ 12288) ⌝ }
 {
     let reading = clients::read_text(text);
     let line = print_reading(reading);
@@ -72,7 +72,7 @@ fn run_clients(head: Head, text: &[u8])
 // Reads the text that a head announces into the space lent, and runs the case. False where the input
 // ends before the patches.
 fn run_case(head: Head, text: &mut [u8]) -> bool
-    requires { ⌜ (head .«site_room» ≤ 16384) × (head .«plan_room» ≤ 16384) ⌝ }
+    requires { ⌜ (head .«site_room» ≤ 12288) × (head .«plan_room» ≤ 12288) ⌝ }
 {
     let mut lf = [0u8; 1];
     if !read_exactly(text) {

@@ -12,7 +12,7 @@ ghost use Prim.Native.Nat.{_≤_};
 
 // Writes records.
 pub fn run_write_records(site: Site, room: usize)
-    requires { ⌜ room ≤ 16384 ⌝ }
+    requires { ⌜ room ≤ 12288 ⌝ }
 {
     let mut bytes = space(b'.');
     let written = clients::write_records(site, &mut bytes[..room]);
@@ -22,7 +22,7 @@ pub fn run_write_records(site: Site, room: usize)
 
 // Plans records.
 pub fn run_plan_records(site: Site, room: usize)
-    requires { ⌜ room ≤ 16384 ⌝ }
+    requires { ⌜ room ≤ 12288 ⌝ }
 {
     let mut bytes = space(b'.');
     let planned = clients::plan_records(site, &mut bytes[..room]);
@@ -32,7 +32,7 @@ pub fn run_plan_records(site: Site, room: usize)
 
 // Takes records there and back.
 pub fn run_there_and_back(site: Site, room: usize)
-    requires { ⌜ room ≤ 16384 ⌝ }
+    requires { ⌜ room ≤ 12288 ⌝ }
 {
     let mut bytes = space(b'.');
     let reading = clients::there_and_back(site, &mut bytes[..room]);
@@ -42,7 +42,7 @@ pub fn run_there_and_back(site: Site, room: usize)
 
 // Plans a text as the commissioning tool does.
 pub fn run_commission(text: &[u8], room: usize)
-    requires { ⌜ room ≤ 16384 ⌝ }
+    requires { ⌜ room ≤ 12288 ⌝ }
 {
     let mut bytes = space(b'.');
     let number = clients::commission(text, &mut bytes[..room]);
@@ -51,7 +51,7 @@ pub fn run_commission(text: &[u8], room: usize)
 
 // Plans a text as the survey tool does.
 pub fn run_survey(text: &[u8], room: usize)
-    requires { ⌜ room ≤ 16384 ⌝ }
+    requires { ⌜ room ≤ 12288 ⌝ }
 {
     let mut bytes = space(b'.');
     let number = clients::survey(text, &mut bytes[..room]);
@@ -60,7 +60,7 @@ pub fn run_survey(text: &[u8], room: usize)
 
 // Takes a text there and back.
 pub fn run_rewrite(text: &[u8], room: usize)
-    requires { ⌜ room ≤ 16384 ⌝ }
+    requires { ⌜ room ≤ 12288 ⌝ }
 {
     let mut bytes = space(b'.');
     let number = clients::rewrite(text, &mut bytes[..room]);

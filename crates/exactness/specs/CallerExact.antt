@@ -83,7 +83,7 @@ pub data Returned (text before : List ℕ) (n : ℕ) (after : List ℕ) : Type 0
 
 -- a text that reads, and the planner's answer to its records
 module _ (text before : List ℕ) (s : Site) (read : Reads text s) where
-  abbrev taken : Taken s
+  abbrev pub taken : Taken s
   taken = write-of-read text s read .0
 
   module _ (r : Planned) (after : List ℕ) (exact : ExactAnswer s before r after) where

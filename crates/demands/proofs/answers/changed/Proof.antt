@@ -7,10 +7,10 @@ use Rattle.demands.proofs.answers.changed.Statement.{statement}
 use Rattle.demands.proofs.answers.changed.Tie as tie
 
 abbrev Inv-loop : tie.InvT-loop
-Inv-loop space count₀ i₀ count i = (i ≤ 16384) × (count ≤ i)
+Inv-loop space count₀ i₀ count i = (i ≤ 12288) × (count ≤ i)
 
 abbrev μ-loop : tie.MeasureT-loop
-μ-loop space count₀ i₀ count i = 16384 - i
+μ-loop space count₀ i₀ count i = 12288 - i
 
 loop-holds : tie.Need-loop-holds Inv-loop μ-loop
 loop-holds c = search needs

@@ -12,6 +12,9 @@ slice-aggregate-print-line c = search needs
 changed-requires : tie.Need-changed-requires
 changed-requires c κs = search needs
 
+cast-t10 : tie.Need-cast-t10
+cast-t10 c = search needs
+
 slice-aggregate-print-line-2 : tie.Need-slice-aggregate-print-line-2
 slice-aggregate-print-line-2 c = search needs
 
@@ -28,6 +31,6 @@ print-number-spec =
     (tie.spec
     slice-aggregate-print-line
     changed-requires
-    slice-aggregate-print-line-2
+    cast-t10 slice-aggregate-print-line-2
     print-line-requires
     returns)

@@ -1,0 +1,93 @@
+-- Why the clients keep what they promise: the reader's answer is what `Surveyed` says, and line k of a text is the row that the reader sees.
+use mathlib.Core.Path.{_≡_, refl, sym, ap, _∙_}
+use mathlib.Core.List.{List, [], _∷_}
+use mathlib.Core.Logic.{_⊎_, inl, inr}
+use Prim.Native.Nat.{ℕ, zero, suc, _+_, _-_, _≤_, _<_}
+use native.Mathlib.Omega.{arith}
+use lib.Dec.{eqb}
+use lib.ListN.{length, getD, take, drop, length-drop, drop-of-length-le}
+use lib.Seq.{length-take-le}
+use Rattle.hexline.specs.Lines.{Row, rows, lineLength}
+use Rattle.hexline.specs.LineLaws.{line-within}
+use Rattle.hexline.specs.Loops.{decide}
+use Rattle.shown.specs.Shown.{lineStart, lineAt}
+use Rattle.shown.specs.ShownLaws.{start-fits, line-is-row, line-there, line-missing}
+use Rattle.site.specs.declared.Reading.{Reading}
+use Rattle.site.specs.declared.Site.{Site}
+use Rattle.site.specs.declared.Verdict.{Verdict}
+use Rattle.site.specs.declared.Verdict.the-variants.{Accepted, Refused}
+use Rattle.site.specs.Records.{noSite}
+use Rattle.site.specs.Reading.{refusalAt, entered, accepted, readRows, readText}
+use Rattle.site.specs.Table.{due}
+use Rattle.roundtrip.specs.AcceptedExactly.{accepted-exactly}
+use Rattle.roundtrip.specs.WriteOfRead.{write-of-read}
+use Rattle.demands.specs.Demands.{Surveyed, noRow}
+
+-- ---- the reader
+
+-- a verdict of acceptance has the records as they are, and any other all zero
+rows-zero : (rs : List Row) (k : ℕ) (s : Site) (number line : ℕ) → readRows k s rs .verdict ≡ Refused number line → readRows k s rs .site ≡ noSite
+unfolding readRows
+rows-zero [] k s number line e = elim (decide (eqb (due k (s .«cluster_count») (s .«flow_count»)) 0)) [
+  | inl q ↦ absurd (let v : Accepted ≡ Refused number line = rw q at e in let z : _≡_ {A = ℕ} 0 1 = cc in omega arith)
+  | inr q ↦ rw q
+]
+rows-zero (r ∷ rs) k s number line e = elim (decide (eqb (refusalAt k s r) 0)) [
+  | inl q ↦ rw q (rows-zero rs (k + 1) (entered k s (r .chars)) number line (rw q at e))
+  | inr q ↦ rw q
+]
+
+pub surveyed : (text : List ℕ) → Surveyed text (readText text)
+unfolding readText
+surveyed text = record {
+  by-table = refl;
+  taken-exactly = (
+    λ e. accepted-exactly text .0 (readText text .site, whole e),
+    λ w. let read = accepted-exactly text .1 w in ap (λ (r : Reading). r .verdict) (read .1),
+  );
+  writes-back = λ e. let back = write-of-read text (readText text .site) (whole e) in (back .0, back .1);
+  zero-after-refusal = λ number line e. rows-zero (rows text) 1 noSite number line e;
+}
+  where
+    whole : readText text .verdict ≡ Accepted → readText text ≡ accepted (readText text .site)
+    whole e = λ i. record { site = readText text .site; verdict = e i }
+
+-- ---- the part shown
+
+module _ (t : List ℕ) (k : ℕ) where
+  abbrev rest : List ℕ
+  rest = drop (lineStart t k) t
+
+  line-length : length (lineAt t k) ≡ lineLength rest
+  unfolding lineAt
+  line-length = length-take-le (lineLength rest) rest (line-within rest)
+
+  pub part-fits : lineStart t k + length (lineAt t k) ≤ length t
+  part-fits = omega (arith, line-length, line-within rest, length-drop (lineStart t k) t, start-fits t k)
+
+  pub part-is-line : take (length (lineAt t k)) rest ≡ lineAt t k
+  unfolding lineAt
+  part-is-line = ap (λ (n : ℕ). take n rest) line-length
+
+  -- the part that begins at s and is n long
+  pub part-between : (s n : ℕ) → s ≡ lineStart t k → n ≡ length (lineAt t k) → take (s + n - s) (drop s t) ≡ lineAt t k
+  part-between s n p q = let size : s + n - s ≡ n = omega arith in rw (size, p, q) part-is-line
+
+  empty-at-end : lineStart t k ≡ length t → lineAt t k ≡ []
+  unfolding lineAt lineLength
+  empty-at-end e = let none : rest ≡ [] = drop-of-length-le t {i = lineStart t k} (omega arith) in rw none
+
+  pub that-line : (n : ℕ) → k ≡ suc n → n < length (rows t) → (lineStart t k < length t) × (lineAt t k ≡ getD (rows t) n noRow .chars)
+  that-line n e l = rw e (line-there t n l, line-is-row t n)
+
+  no-line-zero : k ≡ 0 → lineStart t k ≡ length t
+  unfolding lineStart
+  no-line-zero e = rw e
+
+  past-last : (j : ℕ) → k ≡ j → length (rows t) < j → lineStart t k ≡ length t
+  past-last zero e l = absurd (omega arith)
+  past-last (suc n) e l = rw e (line-missing t n (omega arith))
+
+  pub no-line : (k ≡ 0) ⊎ (length (rows t) < k) → (lineStart t k ≡ length t) × (lineAt t k ≡ [])
+  no-line (inl e) = let start = no-line-zero e in (start, empty-at-end start)
+  no-line (inr l) = let start = past-last k refl l in (start, empty-at-end start)

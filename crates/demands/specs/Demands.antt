@@ -1,0 +1,43 @@
+-- What a caller may rely on, beside `ExactNumber`, `ExactRewrite` (crate exactness), `ExactAnswer` and `ExactWriting`: the reader's answer, records there and back, and
+-- the part shown for a line. Each is stated of the values that really came back.
+use mathlib.Core.Path.{_≡_}
+use mathlib.Core.Bool.{true}
+use mathlib.Core.List.{List, [], _++_}
+use mathlib.Core.Logic.{_↔_, _⊎_}
+use Prim.Native.Nat.{ℕ, suc, _+_, _≤_, _<_}
+use lib.ListN.{length, getD, take, drop}
+use denote.Ref.{RefT, ptr, now}
+use Rattle.hexline.specs.Lines.{Row, rows}
+use Rattle.site.specs.declared.Reading.{Reading}
+use Rattle.site.specs.declared.Site.{Site}
+use Rattle.site.specs.declared.Verdict.the-variants.{Accepted, Refused}
+use Rattle.site.specs.Records.{noSite}
+use Rattle.site.specs.Reading.{accepted, refused, readText}
+use Rattle.records.specs.Check.{checked}
+use Rattle.writer.specs.Text.{textOf}
+use Rattle.roundtrip.specs.Kept.{kept}
+
+-- a text is taken exactly if it is the text of records that the check accepts, and then its records write back to it; else it is refused by the table of refusals,
+-- with records that are all zero
+pub record Surveyed (text : List ℕ) (r : Reading) : Type 0 where
+  pub by-table : r ≡ readText text
+  pub taken-exactly : (r .verdict ≡ Accepted) ↔ ((s : Site) × (checked s ≡ Accepted) × (textOf s ≡ text))
+  pub writes-back : r .verdict ≡ Accepted → (checked (r .site) ≡ Accepted) × (textOf (r .site) ≡ text)
+  pub zero-after-refusal : (number line : ℕ) → r .verdict ≡ Refused number line → r .site ≡ noSite
+
+-- records written into a room and read again: the same up to their counts and tag lengths, or the writer's refusal with the room as it was
+pub record BackAgain (s : Site) (before : List ℕ) (r : Reading) (after : List ℕ) : Type 0 where
+  pub same-records : checked s ≡ Accepted → length (textOf s) ≤ length before → (r ≡ accepted (kept s)) × (after ≡ textOf s ++ drop (length (textOf s)) before)
+  pub refused-alike : (number line : ℕ) → checked s ≡ Refused number line → (r ≡ refused number line) × (after ≡ before)
+  pub short-room : checked s ≡ Accepted → length before < length (textOf s) → (r ≡ refused 9 0) × (after ≡ before)
+
+abbrev pub noRow : Row
+noRow = record { chars = []; ended = true }
+
+-- a part of a text's own memory: the characters of line k, lines counted from 1, or the empty part at the text's end where there is no line k
+pub record LineShown (text part : RefT (List ℕ)) (k : ℕ) : Type 0 where
+  pub start : ℕ
+  pub place : ptr part ≡ (ptr text .0, ptr text .1 + start)
+  pub inside : now part ≡ take (length (now part)) (drop start (now text))
+  pub that-line : (n : ℕ) → k ≡ suc n → n < length (rows (now text)) → (start < length (now text)) × (now part ≡ getD (rows (now text)) n noRow .chars)
+  pub no-line : (k ≡ 0) ⊎ (length (rows (now text)) < k) → (start ≡ length (now text)) × (now part ≡ [])
