@@ -89,7 +89,8 @@ static const char *in_words(enum cartheron_refusal number)
         return "the active portions fit no beacon interval that the flows' periods permit\n"
                "Lower the clusters' superframe orders, or require the most frequent flow less often.";
     case CARTHERON_NO_PLACING:
-        return "the portions fit, but no order of the clusters meets every deadline\n"
+        return "the portions fit, but no order of the clusters keeps every flow within the crossings "
+               "that its deadline allows\n"
                "Lengthen the deadlines of flows that go opposite ways through the same clusters.";
     case CARTHERON_SHORT_ROOM:
         return "the room is shorter than the plan";

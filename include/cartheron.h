@@ -38,7 +38,8 @@ enum cartheron_refusal {
     CARTHERON_WRONG_PARENT = 5, /* the root's parent is not FF, or another's is not a lower number */
     CARTHERON_TAG_USED = 6,     /* an earlier cluster has the same tag */
     CARTHERON_NO_FIT = 7,       /* the active portions fit no beacon interval that the periods permit */
-    CARTHERON_NO_PLACING = 8,   /* they fit, but no order of the clusters meets every deadline */
+    CARTHERON_NO_PLACING = 8,   /* they fit, but no order of the clusters keeps every flow within the
+                                   crossings that its deadline allows */
     CARTHERON_SHORT_ROOM = 9    /* the room is shorter than the answer */
 };
 

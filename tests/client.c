@@ -90,8 +90,8 @@ static void lines(void)
     check(cartheron_line_start(text, 5, (size_t)-1) == 5 && cartheron_line_length(NULL, 0, 1) == 0, "no such line");
 }
 
-/* 64 clusters in a chain, tags of 64 bytes, 128 flows both ways with deadlines that no order meets: all
- * orders are tried. */
+/* 64 clusters in a chain, tags of 64 bytes, 128 flows both ways with deadlines that allow too few crossings
+ * at every order. */
 static size_t largest(char *text)
 {
     char *at = text + sprintf(text, "01014080\n");
