@@ -1,7 +1,7 @@
 """Where the slowest site of the benchmark comes from: prints the rounds of each member of a family of sites.
 
 The family: shapes of trees, the flows up their edges in several orders, and the edge that a flow down turns
-into a negative loop. Rounds are counted as document 01 has them, in place and from the depths, over the
+into a negative loop. Rounds are counted in place and from the depths, over the
 constraints of the independent planner.
 """
 

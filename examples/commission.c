@@ -45,8 +45,8 @@ static void print_ms(uint32_t symbols, int columns)
     printf("%*u.%03u", columns, (unsigned)(us / 1000), (unsigned)(us % 1000));
 }
 
-/* Prints a plan text as a table. Its lines are 81, version, order, number of clusters; and then for
- * each cluster 82, number, start (4 bytes), length (4 bytes), tag length, tag. */
+/* Prints a plan text as a table (docs/FORMATS.md, "Plan text"). Its lines are 81, version, order, number
+ * of clusters; and then for each cluster 82, number, start (4 bytes), length (4 bytes), tag length, tag. */
 static void print_plan(const uint8_t *plan)
 {
     uint32_t order = number_at(plan, 2, 1), clusters = number_at(plan, 3, 1);
@@ -131,7 +131,7 @@ static size_t byte_outside(struct part line, uint32_t clusters)
 }
 
 /* Where the caret goes under a line that was refused. Number and line come from the library; the
- * place in the line is this tool's own reading of document 01. */
+ * place in the line is this tool's own reading of docs/FORMATS.md. */
 static size_t column_at_fault(enum cartheron_refusal number, struct part text, struct part line)
 {
     size_t i = 0;

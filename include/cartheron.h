@@ -1,7 +1,7 @@
 /* Cartheron: plans for wireless sensor trees.
  *
- * A site text goes in, a plan text comes out. Both are lines of hexadecimal, each ended by one LF;
- * document 01 of the project has the layout.
+ * A site text goes in, a plan text comes out. Both are lines of hexadecimal, each ended by one LF.
+ * docs/FORMATS.md has their layout ("Site text", "Plan text") and the rules.
  *
  * Every function takes any bytes and any lengths and always returns. A text or a room of length 0
  * may come with any pointer, NULL too. Text and room must not overlap. Nothing is kept after a call,
@@ -28,7 +28,8 @@ extern "C" {
 #define CARTHERON_LONGEST_PLAN 9673
 #define CARTHERON_LONGEST_SITE 11721
 
-/* Why a text was refused. Refusals 1 to 6 name a line of the text, counted from 1; 7 to 9 have line 0. */
+/* Why a text was refused (docs/FORMATS.md, "Refusal numbers"). Refusals 1 to 6 name a line of the
+ * text, counted from 1; 7 to 9 have line 0. */
 enum cartheron_refusal {
     CARTHERON_NOT_A_LINE = 1,   /* the line has another character than 0-9 and A-F, an odd number of
                                    digits, none or more than 136, or the text ends inside it */

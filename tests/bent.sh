@@ -1,6 +1,6 @@
 #!/bin/sh
-# Sees that tests/differential.c can fail: bends the plain C reference in one place at a time, as document 01's
-# "Errors that look right" and the impostors do, and each time the comparison has to report a difference.
+# Sees that tests/differential.c can fail: bends the plain C reference in one place at a time, into errors that
+# look right, and each time the comparison has to report a difference.
 set -eu
 cd "$(dirname "$0")/.."
 . tests/build.sh

@@ -1,5 +1,5 @@
-/* The commissioning tool's view: calls every function of cartheron.h over texts whose answers document
- * 01 gives, and measures the stack that planning the largest site takes. Prints a line for each check
+/* The commissioning tool's view: calls every function of cartheron.h over texts whose answers
+ * docs/FORMATS.md gives, and measures the stack that planning the largest site takes. Prints a line for each check
  * that fails, then how many passed and failed. */
 #define _GNU_SOURCE
 #include <pthread.h>

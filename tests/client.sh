@@ -1,6 +1,6 @@
 #!/bin/sh
-# Builds the C clients and runs them. `client` checks what document 01 gives and the stack that planning takes,
-# `plan_cases` is compared with the independent planner of planning.py.
+# Builds the C clients and runs them. `client` checks answers of docs/FORMATS.md and the stack that planning
+# takes, `plan_cases` is compared with the independent planner of planning.py.
 set -eu
 cd "$(dirname "$0")/.."
 . tests/build.sh

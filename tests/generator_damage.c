@@ -1,4 +1,4 @@
-/* Every kind of damage that the refusals of document 01 name, to the records and to the text. */
+/* Every kind of damage that refusals 1 to 6 of docs/FORMATS.md name, to the records and to the text. */
 #include "generator.h"
 
 #include <string.h>

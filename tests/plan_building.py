@@ -11,7 +11,7 @@ LONGEST_PLAN = 9_673
 
 @dataclass(frozen=True)
 class Case:
-    """A text and a room, and what document 01 answers, as we state it here without planning.py."""
+    """A text and a room, and what docs/FORMATS.md answers, as we state it here without planning.py."""
     text: bytes
     room: int = LARGEST_TEXT
     states: object = OPEN     # a refusal and its line, or the beacon order and the clusters in order of start

@@ -1,4 +1,4 @@
-"""Cases of the planner's rules, one group for each: document 01's table and the errors that look right."""
+"""Cases of the planner's rules, one group for each: the worked sites of docs/FORMATS.md and errors that look right."""
 
 from plan_building import *
 from site_building import CLUSTERS_ONLY, FULL, P3, made_bad, pair
@@ -20,7 +20,7 @@ def own_flow(period, deadline=1):
 
 
 def worked_sites():
-    """Document 01's table."""
+    """P1 to P10 of docs/FORMATS.md, and what stands below them in its table."""
     yield planned(P[1], 14, 0)
     yield planned(P[2], 14, 0, 1, 2)
     yield planned(P[3], 2, 2, 1, 0)

@@ -1,8 +1,8 @@
-"""Document 01's planner in Python, from the document's text alone, over the records of reference.py.
+"""The planner of docs/FORMATS.md in Python, independent of the product, over the records of reference.py.
 
-First the plan as the document makes it, by constraints and shortest distances. Then, apart from that,
-what a placing is, and all placings of a small site by trying every sequence. A refusal is a pair: its
-number and its line. Open points are read as docs/DECISIONS.md says.
+First the plan as "The plan that is returned" makes it, by constraints and shortest distances. Then,
+apart from that, what a placing is, and all placings of a small site by trying every sequence. A refusal
+is a pair: its number and its line.
 """
 
 from itertools import accumulate, combinations, pairwise, permutations

@@ -1,7 +1,7 @@
-"""Document 01's site part in Python, from the document's text alone.
+"""The site part of docs/FORMATS.md ("Site text", "Refusal numbers") in Python, independent of the product.
 
 The reader, the check of records, the site writer and the part shown. A refusal is a pair: its number
-and its line. Open points are read as docs/DECISIONS.md says.
+and its line.
 """
 
 from dataclasses import dataclass, field

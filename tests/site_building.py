@@ -12,7 +12,7 @@ OPEN = "open"
 
 @dataclass(frozen=True)
 class Case:
-    """A text, and what document 01 says of it, as we state it here without the reference."""
+    """A text, and what docs/FORMATS.md says of it, as we state it here without the reference."""
     text: bytes
     reads: object = OPEN     # the reader's refusal, or None where it accepts
     writes: object = OPEN    # the writer's refusal, or the text it gives

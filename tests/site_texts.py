@@ -7,7 +7,7 @@ from site_building import *
 
 
 def worked_texts():
-    """Document 01's own texts, and the shortest ones."""
+    """The worked texts of docs/FORMATS.md, and the shortest ones."""
     yield reads(text_of(P3))
     yield reads(b"01010100\n", (2, 2))
     yield reads(b"01010100", (1, 1))

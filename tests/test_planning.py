@@ -1,4 +1,4 @@
-"""Checks planning.py against document 01's table, what the cases state, and every sequence of small sites.
+"""Checks planning.py against the worked sites P1 to P11, what the cases state, and every sequence of small sites.
 
 Run by `python3 -m unittest discover tests`.
 """

@@ -1,4 +1,4 @@
-"""Checks reference.py against document 01's worked rows, its sizes, and what the cases of demands.py state.
+"""Checks reference.py against the worked texts and sizes of docs/FORMATS.md, and what the cases of demands.py state.
 
 Run by `python3 -m unittest discover tests`.
 """

@@ -1,4 +1,4 @@
-/* What the reader and the planner share of document 01: the lengths of records and the refusals. */
+/* What the reader and the planner share of docs/FORMATS.md: the lengths of records and the refusals. */
 #ifndef LAYOUT_H
 #define LAYOUT_H
 

@@ -1,4 +1,4 @@
-/* The planner and the two writers of document 01. */
+/* The planner and the two writers of docs/FORMATS.md. */
 #include "layout.h"
 #include "reference.h"
 

@@ -1,4 +1,4 @@
-/* The reader of document 01, and the lines of a text. */
+/* The reader of docs/FORMATS.md, and the lines of a text. */
 #include "layout.h"
 #include "reference.h"
 

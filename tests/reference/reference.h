@@ -1,5 +1,5 @@
-/* Document 01 once more, in plain C and from its text alone. It shares nothing with the product and
- * serves to compare answers and times with it.
+/* docs/FORMATS.md once more, in plain C. It shares nothing with the product and serves to compare answers
+ * and times with it.
  */
 #ifndef REFERENCE_H
 #define REFERENCE_H
