@@ -1,11 +1,15 @@
-"""Where the slowest site of the benchmark comes from: prints the rounds of each member of a family of sites.
+"""Sees that bench/sites/slowest.site is the slowest of its family, and prints the rounds that each member takes:
+by halves, as the library searches for the order, and in turn from the largest order down, as the plain C of
+tests/reference does.
 
 The family: shapes of trees, the flows up their edges in several orders, and the edge that a flow down turns
-into a negative loop. Rounds are counted in place and from the depths, over the
-constraints of the independent planner.
+into a negative loop. Rounds are counted in place and from the depths, over the constraints of the independent
+planner. Exit status 1 where a member takes more rounds than the stored site, either way.
 """
 
 import random
+import sys
+from pathlib import Path
 
 from make_sites import CLUSTERS, slow
 from plan_building import binary, chain, comb, star
@@ -30,15 +34,32 @@ def rounds_at(site, order):
     return site.cluster_count, False
 
 
-def rounds(text):
-    """How many rounds the search takes in all."""
-    site, total = reference.read(text), 0
-    for order in planning.fitting_orders(site):
-        number, settled = rounds_at(site, order)
+def in_turn(tried):
+    """The rounds over orders, the largest first, up to the first that settles."""
+    total = 0
+    for number, settled in tried:
         total += number
         if settled:
             break
     return total
+
+
+def by_halves(tried):
+    """The rounds where the largest order is tried first, and then the one in the middle of those left."""
+    total, first, last, at = 0, 0, len(tried), 0
+    while first < last:
+        number, settled = tried[at]
+        total += number
+        first, last = (first, at) if settled else (at + 1, last)
+        at = first + (last - first - 1) // 2
+    return total
+
+
+def rounds(text):
+    """The rounds that a site takes, by halves and in turn."""
+    site = reference.read(text)
+    tried = [rounds_at(site, order) for order in planning.fitting_orders(site)]
+    return by_halves(tried), in_turn(tried)
 
 
 def family():
@@ -48,9 +69,13 @@ def family():
     for shape in chain, comb, binary, star:
         for listed, name in (edges, "root first"), (edges[::-1], "deepest first"), (shuffled, "shuffled"):
             for turned in 1, 20, 40, 62, 63:
-                yield rounds(slow(shape(CLUSTERS), listed, turned)), shape.__name__, name, turned
+                yield *rounds(slow(shape(CLUSTERS), listed, turned)), shape.__name__, name, turned
 
 
 if __name__ == "__main__":
-    for total, shape, listed, turned in sorted(family(), reverse=True):
-        print(f"{total:4} rounds: {shape}, {listed}, loop at the edge above {turned}")
+    members = sorted(family(), reverse=True)
+    for halves, turns, shape, listed, turned in members:
+        print(f"{halves:4} rounds by halves, {turns:4} in turn: {shape}, {listed}, loop at the edge above {turned}")
+    stored = rounds((Path(__file__).parent / "sites" / "slowest.site").read_bytes())
+    print(f"{stored[0]:4} rounds by halves, {stored[1]:4} in turn: the slowest site of the benchmark")
+    sys.exit(any(member[side] > stored[side] for member in members for side in (0, 1)))

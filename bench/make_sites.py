@@ -5,12 +5,12 @@ and 128 flows with deadlines so loose that the first order tried has a plan afte
 reading and writing.
 
 slowest: planned at order 6 only, the smallest that 64 clusters fit, after 568 rounds over 254 constraints
-at nine orders where each is tried in turn; nine times 64 rounds is more than any site can take. The tree
+at nine orders where each is tried in turn, and after 316 at five where they are tried by halves. The tree
 is a chain. A flow from each cluster up to its parent, with a deadline that never allows a crossing, says
 that N does not grow on that edge. They stand with the deepest first, so that the 0 of the root comes down
 one level a round, and all distances change in every round. A flow down the last edge allows a crossing at
 order 6 and none above it, which closes a negative loop that shows when the 0 arrives: in round 63.
-families.py found it.
+families.py found it, and sees that no member of its family takes more.
 """
 
 import sys
