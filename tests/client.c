@@ -20,44 +20,73 @@ static void check(int ok, const char *what)
     }
 }
 
-static uint8_t room[CARTHERON_LONGEST_SITE + 64];
+/* One memory for all rooms: a room is the first bytes of it, and those behind are not lent. */
+static uint8_t memory[CARTHERON_LONGEST_SITE + 64];
 
-static int untouched(size_t from)
+static void clear(void)
 {
-    for (size_t i = from; i < sizeof room; i++)
-        if (room[i] != '.')
+    memset(memory, '.', sizeof memory);
+}
+
+/* Whether the memory begins with these bytes and is untouched behind them, inside the room and outside. */
+static int holds(const char *bytes)
+{
+    size_t length = strlen(bytes);
+    if (memcmp(memory, bytes, length) != 0)
+        return 0;
+    for (size_t i = length; i < sizeof memory; i++)
+        if (memory[i] != '.')
             return 0;
     return 1;
 }
 
-/* Plans a text; the answer has to be the given plan text, with the room behind it untouched. */
-static void plans(const char *what, const char *text, const char *plan)
+typedef uint32_t function(const uint8_t *text, size_t text_len, uint8_t *room, size_t room_len);
+
+/* Calls a function with a text and a room of so many bytes; it has to write this answer and nothing else. */
+static void writes(const char *what, function *call, const char *text, size_t room_len, const char *answer)
 {
-    memset(room, '.', sizeof room);
-    uint32_t n = cartheron_plan((const uint8_t *)text, strlen(text), room, sizeof room);
-    check(n == strlen(plan) && memcmp(room, plan, n) == 0 && untouched(n), what);
+    clear();
+    uint32_t n = call((const uint8_t *)text, strlen(text), memory, room_len);
+    check(!CARTHERON_REFUSED(n) && n == strlen(answer) && holds(answer), what);
 }
 
-/* Plans a text; it has to be refused so, with the whole room untouched. */
-static void refuses(const char *what, const char *text, uint32_t number, uint32_t line)
+/* The same; it has to refuse so and write nothing. */
+static void declines(const char *what, function *call, const char *text, size_t room_len,
+                     enum cartheron_refusal number, uint32_t line)
 {
-    memset(room, '.', sizeof room);
-    uint32_t n = cartheron_plan((const uint8_t *)text, strlen(text), room, sizeof room);
-    check(CARTHERON_REFUSED(n) && (uint32_t)CARTHERON_NUMBER(n) == number && CARTHERON_LINE(n) == line && untouched(0), what);
+    clear();
+    uint32_t n = call((const uint8_t *)text, strlen(text), memory, room_len);
+    check(CARTHERON_REFUSED(n) && CARTHERON_NUMBER(n) == number && CARTHERON_LINE(n) == line && holds(""), what);
+}
+
+/* Planning in all of the memory. */
+static void plans(const char *what, const char *text, const char *plan)
+{
+    writes(what, cartheron_plan, text, sizeof memory, plan);
+}
+
+static void refuses(const char *what, const char *text, enum cartheron_refusal number, uint32_t line)
+{
+    declines(what, cartheron_plan, text, sizeof memory, number, line);
 }
 
 #define CHAIN "02FF000141\n0200000142\n0201000143\n"
 static const char P3[] = "01010301\n" CHAIN "03020000000F0000000F00\n";
-static const char P3_plan[] = "81010203\n820200000000000003C00143\n8201000003C0000003C00142\n820000000780000003C00141\n";
+static const char P3_plan[] =
+    "81010203\n820200000000000003C00143\n8201000003C0000003C00142\n820000000780000003C00141\n";
+static const char P4[] = "01010302\n" CHAIN "03000200000F0000001DFF\n03020000000F0000001DFF\n";
+static const char P8[] = "01010201\n02FF000141\n0200000142\n0300010000077F00000780\n";
+enum { P3_LENGTH = sizeof P3 - 1, P3_PLAN_LENGTH = 84 };
 
 static void answers(void)
 {
     plans("P3: child first, the root last", P3, P3_plan);
-    plans("P2: no flows, order 14", "01010300\n" CHAIN, "81010E03\n820000000000000003C00141\n8201000003C0000003C00142\n820200000780000003C00143\n");
+    plans("P2: no flows, order 14", "01010300\n" CHAIN,
+          "81010E03\n820000000000000003C00141\n8201000003C0000003C00142\n820200000780000003C00143\n");
     plans("P5: one crossing allowed", "01010302\n" CHAIN "03000200000F0000001E00\n03020000000F0000001E00\n",
           "81010203\n820000000000000003C00141\n8202000003C0000003C00143\n820100000780000003C00142\n");
-    refuses("P4: no placing", "01010302\n" CHAIN "03000200000F0000001DFF\n03020000000F0000001DFF\n", CARTHERON_NO_PLACING, 0);
-    refuses("P8: no fit", "01010201\n02FF000141\n0200000142\n030001" "0000077F" "00000780\n", CARTHERON_NO_FIT, 0);
+    refuses("P4: no placing", P4, CARTHERON_NO_PLACING, 0);
+    refuses("P8: no fit", P8, CARTHERON_NO_FIT, 0);
     refuses("a header alone: line 2 is missing", "01010100\n", CARTHERON_WRONG_KIND, 2);
     refuses("the same without LF", "01010100", CARTHERON_NOT_A_LINE, 1);
     refuses("the empty text", "", CARTHERON_WRONG_KIND, 1);
@@ -67,27 +96,69 @@ static void answers(void)
     refuses("a record too long", "01010100\n02FF00014141\n", CARTHERON_WRONG_LENGTH, 2);
 }
 
-static void rooms(void)
+/* Rooms around the length of the plan, and rooms of no bytes at all. */
+static void rooms_for_plans(void)
 {
-    size_t n = strlen(P3_plan);
-    memset(room, '.', sizeof room);
-    uint32_t r = cartheron_plan((const uint8_t *)P3, strlen(P3), room, n - 1);
-    check(r == 65536u * CARTHERON_SHORT_ROOM && untouched(0), "a room one byte short is refused and stays");
-    r = cartheron_plan((const uint8_t *)P3, strlen(P3), room, n);
-    check(r == n && untouched(n), "a room just long enough");
-    check(cartheron_plan(NULL, 0, NULL, 0) == 65536u * CARTHERON_WRONG_KIND + 1, "no text and no room, by null pointers");
-    r = cartheron_rewrite((const uint8_t *)P3, strlen(P3), room, sizeof room);
-    check(r == strlen(P3) && memcmp(room, P3, r) == 0, "a site read and written back");
-    check(cartheron_rewrite((const uint8_t *)"0", 1, room, sizeof room) == 65536u * CARTHERON_NOT_A_LINE + 1, "no site to write back");
+    check(strlen(P3_plan) == P3_PLAN_LENGTH, "the plan of P3 has 84 bytes");
+    writes("P3 in a room of one byte more than its plan", cartheron_plan, P3, P3_PLAN_LENGTH + 1, P3_plan);
+    writes("P3 in a room just as long as its plan", cartheron_plan, P3, P3_PLAN_LENGTH, P3_plan);
+    declines("P3 in a room one byte short", cartheron_plan, P3, P3_PLAN_LENGTH - 1, CARTHERON_SHORT_ROOM, 0);
+    declines("P3 in a room of one byte", cartheron_plan, P3, 1, CARTHERON_SHORT_ROOM, 0);
+    declines("P3, which has a plan, in a room of no bytes", cartheron_plan, P3, 0, CARTHERON_SHORT_ROOM, 0);
+    declines("P4 in a room of no bytes: no placing comes before the room", cartheron_plan, P4, 0,
+             CARTHERON_NO_PLACING, 0);
+    declines("P8 in a room of no bytes: no fit comes before the room", cartheron_plan, P8, 0, CARTHERON_NO_FIT, 0);
+    declines("the empty text in a room of no bytes", cartheron_plan, "", 0, CARTHERON_WRONG_KIND, 1);
+}
+
+/* Rooms around the length of the site's own text. */
+static void rooms_for_sites(void)
+{
+    writes("P3 written back into a long room", cartheron_rewrite, P3, sizeof memory, P3);
+    writes("P3 written back into a room of one byte more", cartheron_rewrite, P3, P3_LENGTH + 1, P3);
+    writes("P3 written back into a room just as long", cartheron_rewrite, P3, P3_LENGTH, P3);
+    declines("P3 written back into a room one byte short", cartheron_rewrite, P3, P3_LENGTH - 1, CARTHERON_SHORT_ROOM, 0);
+    declines("P3 written back into a room of no bytes", cartheron_rewrite, P3, 0, CARTHERON_SHORT_ROOM, 0);
+    writes("P4, which has no plan, written back", cartheron_rewrite, P4, sizeof memory, P4);
+    writes("P8, which has no plan, written back", cartheron_rewrite, P8, sizeof memory, P8);
+    declines("no site to write back", cartheron_rewrite, "0", sizeof memory, CARTHERON_NOT_A_LINE, 1);
+    declines("no site to write back, and no room", cartheron_rewrite, "0", 0, CARTHERON_NOT_A_LINE, 1);
+}
+
+/* No text and no room, by null pointers; a room by a null pointer for a site that has a plan. */
+static void null_pointers(void)
+{
+    const uint8_t *site = (const uint8_t *)P3;
+    uint32_t missing = 65536u * CARTHERON_WRONG_KIND + 1, short_room = 65536u * CARTHERON_SHORT_ROOM;
+    check(cartheron_plan(NULL, 0, NULL, 0) == missing, "planning no text into no room, by null pointers");
+    check(cartheron_rewrite(NULL, 0, NULL, 0) == missing, "writing back no text into no room, by null pointers");
+    check(cartheron_plan(site, P3_LENGTH, NULL, 0) == short_room, "planning P3 into no room, by a null pointer");
+    check(cartheron_rewrite(site, P3_LENGTH, NULL, 0) == short_room, "writing back P3 into no room, by a null pointer");
+    clear();
+    check(cartheron_plan(NULL, 0, memory, sizeof memory) == missing && holds(""), "planning no text, by a null pointer");
+}
+
+/* The part shown for a line of a text has to begin there and to have so many bytes. */
+static void part_shown(const char *what, const char *text, size_t line, size_t start, size_t length)
+{
+    const uint8_t *bytes = (const uint8_t *)text;
+    size_t bytes_len = strlen(text);
+    check(cartheron_line_start(bytes, bytes_len, line) == start &&
+              cartheron_line_length(bytes, bytes_len, line) == length, what);
 }
 
 static void lines(void)
 {
-    const uint8_t *text = (const uint8_t *)"AB\n\nC";
-    size_t starts[] = {5, 0, 3, 4, 5, 5}, lengths[] = {0, 2, 0, 1, 0, 0};
-    for (size_t k = 0; k < 6; k++)
-        check(cartheron_line_start(text, 5, k) == starts[k] && cartheron_line_length(text, 5, k) == lengths[k], "the part shown for a line");
-    check(cartheron_line_start(text, 5, (size_t)-1) == 5 && cartheron_line_length(NULL, 0, 1) == 0, "no such line");
+    part_shown("line 0: the empty part at the end", "AB\n\nC", 0, 5, 0);
+    part_shown("a line", "AB\n\nC", 1, 0, 2);
+    part_shown("an empty line: the empty part at its own place", "AB\n\nC", 2, 3, 0);
+    part_shown("a last line that no LF ends", "AB\n\nC", 3, 4, 1);
+    part_shown("the line after the last", "AB\n\nC", 4, 5, 0);
+    part_shown("a line far behind the last", "AB\n\nC", (size_t)-1, 5, 0);
+    part_shown("a last line that LF ends", "AB\nC\n", 2, 3, 1);
+    part_shown("nothing follows the last LF", "AB\nC\n", 3, 5, 0);
+    part_shown("line 1 of the empty text", "", 1, 0, 0);
+    check(cartheron_line_start(NULL, 0, 1) == 0 && cartheron_line_length(NULL, 0, 1) == 0, "no text, by a null pointer");
 }
 
 /* 64 clusters in a chain, tags of 64 bytes, 128 flows both ways with deadlines that allow too few crossings
@@ -112,7 +183,7 @@ static uint32_t answer;
 
 static void *planning(void *nothing)
 {
-    answer = cartheron_plan((const uint8_t *)site, site_len, room, sizeof room);
+    answer = cartheron_plan((const uint8_t *)site, site_len, memory, sizeof memory);
     return nothing;
 }
 
@@ -147,12 +218,18 @@ static size_t stack_of(void *(*work)(void *))
 int main(void)
 {
     answers();
-    rooms();
+    rooms_for_plans();
+    rooms_for_sites();
+    null_pointers();
     lines();
     site_len = largest(site);
-    check(site_len == CARTHERON_LONGEST_SITE, "the longest site");
+    check(site_len == CARTHERON_LONGEST_SITE, "the longest site has 11,721 bytes");
+    writes("the longest site written back into a room just as long", cartheron_rewrite, site, site_len, site);
+    declines("the longest site written back into a room one byte short", cartheron_rewrite, site, site_len - 1,
+             CARTHERON_SHORT_ROOM, 0);
+    clear();
     size_t used = stack_of(planning) - stack_of(idle);
-    check(answer == 65536u * CARTHERON_NO_PLACING, "the largest site is refused by 8 after all orders");
+    check(answer == 65536u * CARTHERON_NO_PLACING && holds(""), "the largest site has no placing, and the room stays");
     check(used <= 24 * 1024, "the stack under cartheron_plan is at most 24 KiB");
     printf("stack under cartheron_plan: %zu bytes\n", used);
     printf("client: %d passed, %d failed\n", passed, failed);
