@@ -13,12 +13,10 @@ use Rattle.model.specs.Counting.{Each, at, sumBelow, values}
 use Rattle.model.specs.CountingLaws.{passes-or-fails, each-map, sum-same}
 use Rattle.model.specs.Orders.{largest, interval, isOrder, withinAll, permitted, portion, shortest}
 use Rattle.model.specs.OrderLaws.{symbols-bounded, shortest-decides}
-use Rattle.model.specs.Relaxing.{depths}
 use Rattle.model.specs.Sites as model
 use Rattle.model.specs.Trees.{depth}
 use Rattle.plantext.specs.PlanText.{modelFlow, siteOf}
 use Rattle.plantext.specs.PlanTextLaws.{field-at, order-at}
-use Rattle.search.specs.Posed.{Posed}
 use Rattle.site.specs.declared.Cluster.{Cluster}
 use Rattle.site.specs.declared.Flow.{Flow}
 use Rattle.site.specs.declared.Site.{Site}
@@ -26,7 +24,7 @@ use Rattle.site.specs.declared.Verdict.the-variants.{Accepted}
 use Rattle.records.specs.Check.{checked}
 use Rattle.records.specs.Checked.{checked-unrefused, counts-in, cluster-tests, site-cluster-in, site-flow-in, clusters-reach, flows-reach}
 use Rattle.site.specs.Records.{absent, noFlow, wrongParent}
-use Rattle.planner.specs.Numbers.{periodsOf, descentAt, FlowsInTree}
+use Rattle.planner.specs.Numbers.{parentsOf, flowsOf, periodsOf, descentAt, descentsOf, FlowsInTree}
 use Rattle.planner.specs.NumberLaws.{filled-is-map}
 
 -- ## Lists
@@ -121,7 +119,7 @@ module _ (s : Site) (accepted : checked s ≡ Accepted) where
   -- ## Its numbers
 
   module _ (k : ℕ) (e : k ≡ n) where
-    pub parents-are : (ps : List ℕ) → ps ≡ filled (λ i. getD (s .clusters) i absent .parent) (replicate 64 0) k → take k ps ≡ m .parents
+    pub parents-are : (ps : List ℕ) → ps ≡ parentsOf (s .clusters) k → take k ps ≡ m .parents
     unfolding siteOf
     parents-are ps q = rw (q, e) (filled-is-map _ (λ (c : Cluster). c .parent) (replicate 64 0) (take n (s .clusters)) absent n
         (omega (arith, counts-bounded .1))
@@ -135,17 +133,17 @@ module _ (s : Site) (accepted : checked s ≡ Accepted) where
     field-is : (h : model.Flow → ℕ) (g : ℕ → ℕ) (xs : List ℕ) → xs ≡ filled g (replicate 128 0) j → ((i : ℕ) → i < f → g i ≡ h (modelFlow (getD (s .flows) i noFlow))) → take j xs ≡ map h (m .flows)
     field-is h g xs q same = rw (q, e) (filled-is-map g h (replicate 128 0) (m .flows) (modelFlow noFlow) f (omega (arith, counts-bounded .2)) flows-counted (λ i l. same i l ∙ ap h (sym (flow-at i l))))
 
-    pub sources-are : (xs : List ℕ) → xs ≡ filled (λ i. getD (s .flows) i noFlow .source) (replicate 128 0) j → take j xs ≡ map (λ g. g .source) (m .flows)
+    pub sources-are : (xs : List ℕ) → xs ≡ flowsOf (s .flows) j .sources → take j xs ≡ map (λ g. g .source) (m .flows)
     sources-are xs q = field-is (λ g. g .source) _ xs q (λ i l. refl)
 
-    pub sinks-are : (xs : List ℕ) → xs ≡ filled (λ i. getD (s .flows) i noFlow .sink) (replicate 128 0) j → take j xs ≡ map (λ g. g .sink) (m .flows)
+    pub sinks-are : (xs : List ℕ) → xs ≡ flowsOf (s .flows) j .sinks → take j xs ≡ map (λ g. g .sink) (m .flows)
     sinks-are xs q = field-is (λ g. g .sink) _ xs q (λ i l. refl)
 
-    pub deadlines-are : (xs : List ℕ) → xs ≡ filled (λ i. getD (s .flows) i noFlow .deadline) (replicate 128 0) j → take j xs ≡ map (λ g. g .deadline) (m .flows)
+    pub deadlines-are : (xs : List ℕ) → xs ≡ flowsOf (s .flows) j .deadlines → take j xs ≡ map (λ g. g .deadline) (m .flows)
     deadlines-are xs q = field-is (λ g. g .deadline) _ xs q (λ i l. refl)
 
     pub descents-are : (ps ss ts xs : List ℕ) → ps ≡ m .parents → ss ≡ map (λ g. g .source) (m .flows) → ts ≡ map (λ g. g .sink) (m .flows)
-        → xs ≡ filled (descentAt ps ss ts) (replicate 128 0) (length ss) → take j xs ≡ map (descent m) (m .flows)
+        → xs ≡ descentsOf ps ss ts → take j xs ≡ map (descent m) (m .flows)
     unfolding descentAt descent
     descents-are ps ss ts xs p a b q =
         let number : length ss ≡ j = ap length a ∙ length-map (m .flows) (λ g. g .source) ∙ flows-counted ∙ sym e in
@@ -165,18 +163,4 @@ module _ (s : Site) (accepted : checked s ≡ Accepted) where
       not-many = rw a (omega (arith, length-map (m .flows) (λ g. g .source), flows-counted, counts-bounded .2));
       paired = rw (a, b) (length-map (m .flows) (λ g. g .sink) ∙ sym (length-map (m .flows) (λ g. g .source)));
       ends = λ i l. let here : i < f = omega (arith, ap length a, length-map (m .flows) (λ g. g .source), flows-counted) in rw (p, a, b, source-at i here, sink-at i here, flow-at i here, clusters-counted) (ends-there i here);
-    }
-
-    pub site-posed : (ds es : List ℕ) → ds ≡ map (descent m) (m .flows) → es ≡ map (λ g. g .deadline) (m .flows) → Posed m ps ss ts ds es ls
-    unfolding depths
-    site-posed ds es x y = record {
-      sound = describes-sound;
-      few = omega (arith, clusters-counted, counts-bounded .1);
-      not-many = omega (arith, flows-counted, counts-bounded .2);
-      parents-are = p;
-      sources-are = a;
-      sinks-are = b;
-      descents-are = x;
-      deadlines-are = y;
-      levels-are = d ∙ rw p;
     }

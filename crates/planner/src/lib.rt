@@ -2,11 +2,7 @@
 mod numbers;
 
 use model::wide;
-use numbers::descents_of;
-use numbers::flows_of;
-use numbers::parents_of;
-use numbers::portions_of;
-use numbers::shortest_period;
+use numbers::figures_of;
 use search::Found;
 use site::Site;
 use site::Verdict;
@@ -41,43 +37,16 @@ fn place_clusters(site: Site, placed: &mut [u8]) -> Schedule
     requires { ⌜ (checked site ≡ Accepted) × (length (now placed) ≡ site .«cluster_count») ⌝ }
     ensures { λ r. ⌜ (planOf (siteOf site) ≡ scheduledAs r (now (placed .exit))) × (scheduledCount r ≤ length (now (placed .exit))) ⌝ }
 {
-    let n = wide(site.cluster_count);
-    let f = wide(site.flow_count);
-    let clusters = site.clusters;
-    let total = portions_of(clusters, n);
-    let parents = parents_of(clusters, n);
-    let parents = &parents[..n];
-    let flows = site.flows;
-    let shortest = shortest_period(flows, f);
-    let numbers = flows_of(flows, f);
-    let sources = numbers.sources;
-    let sources = &sources[..f];
-    let sinks = numbers.sinks;
-    let sinks = &sinks[..f];
-    let deadlines = numbers.deadlines;
-    let deadlines = &deadlines[..f];
-    let mut depths = [0; 64];
-    tree::depths(parents, &mut depths[..n]);
-    let depths = &depths[..n];
-    let descents = descents_of(parents, depths, sources, sinks);
-    let descents = &descents[..f];
+    let figures = figures_of(site);
+    let n = figures.cluster_count;
     let mut counts = [0; 64];
-    let found = search::search(
-        parents,
-        sources,
-        sinks,
-        descents,
-        deadlines,
-        depths,
-        shortest,
-        total,
-        &mut counts[..n],
-    );
+    let found = search::search(figures, &mut counts[..n]);
     match found {
         Found::NoFit => Schedule::NoFit,
         Found::NoPlacing => Schedule::NoPlacing,
         Found::Order(order) => {
-            let count = sequence::sequence(parents, &counts[..n], placed);
+            let parents = figures.parents;
+            let count = sequence::sequence(&parents[..n], &counts[..n], placed);
             Schedule::Made { order, count }
         }
     }

@@ -1,29 +1,34 @@
-// The numbers of a site's records, side by side, and what the search wants of them.
+// The figures of a site's records, on which the search works.
 use model::Order;
 use model::wide;
+use search::Figures;
 use site::Cluster;
 use site::Flow;
 use site::MOST_TIME;
+use site::Site;
 ghost use mathlib.Core.Path.{_≡_};
 ghost use Prim.Native.Nat.{ℕ, _≤_, _<_};
-ghost use lib.ListN.{length, getD, replicate};
-ghost use Rattle.hexline.specs.Loops.{filled};
+ghost use lib.ListN.{getD};
 ghost use Rattle.model.specs.Counting.{sumBelow};
 ghost use Rattle.model.specs.Orders.{largest, portion, shortest};
-ghost use Rattle.site.specs.Records.{absent, noFlow};
-ghost use Rattle.planner.specs.Numbers.{periodsOf, descentAt, FlowsInTree};
+ghost use Rattle.plantext.specs.PlanText.{siteOf};
+ghost use Rattle.records.specs.Check.{checked};
+ghost use Rattle.search.specs.Posed.{Posed};
+ghost use Rattle.site.specs.Records.{absent};
+ghost use Rattle.site.specs.declared.Verdict.the-variants.{Accepted};
+ghost use Rattle.planner.specs.Numbers.{parentsOf, flowsOf, periodsOf, descentsOf, FlowsInTree};
 
 // The sources, the sinks and the deadlines of flows.
-pub struct Flows {
-    pub sources: [u8; 128],
-    pub sinks: [u8; 128],
-    pub deadlines: [u32; 128],
+struct Flows {
+    sources: [u8; 128],
+    sinks: [u8; 128],
+    deadlines: [u32; 128],
 }
 
 // The parents of the first n clusters.
-pub fn parents_of(clusters: [Cluster; 64], n: usize) -> [u8; 64]
+fn parents_of(clusters: [Cluster; 64], n: usize) -> [u8; 64]
     requires { ⌜ n ≤ 64 ⌝ }
-    ensures { λ r. ⌜ r ≡ filled (λ i. getD clusters i absent .parent) (replicate 64 0) n ⌝ }
+    ensures { λ r. ⌜ r ≡ parentsOf clusters n ⌝ }
 {
     let mut parents = [0; 64];
     let mut i: usize = 0;
@@ -36,7 +41,7 @@ pub fn parents_of(clusters: [Cluster; 64], n: usize) -> [u8; 64]
 }
 
 // The sum of the portions of the first n clusters.
-pub fn portions_of(clusters: [Cluster; 64], n: usize) -> u32
+fn portions_of(clusters: [Cluster; 64], n: usize) -> u32
     requires { ⌜ (n ≤ 64) × ((c : ℕ) → c < n → getD clusters c absent .order ≤ largest) ⌝ }
     ensures { λ r. ⌜ r ≡ sumBelow n (λ c. portion (getD clusters c absent .order)) ⌝ }
 {
@@ -51,9 +56,9 @@ pub fn portions_of(clusters: [Cluster; 64], n: usize) -> u32
 }
 
 // The sources, the sinks and the deadlines of the first n flows.
-pub fn flows_of(flows: [Flow; 128], n: usize) -> Flows
+fn flows_of(flows: [Flow; 128], n: usize) -> Flows
     requires { ⌜ n ≤ 128 ⌝ }
-    ensures { λ r. ⌜ r ≡ record { sources = filled (λ i. getD flows i noFlow .source) (replicate 128 0) n; sinks = filled (λ i. getD flows i noFlow .sink) (replicate 128 0) n; deadlines = filled (λ i. getD flows i noFlow .deadline) (replicate 128 0) n } ⌝ }
+    ensures { λ r. ⌜ r ≡ flowsOf flows n ⌝ }
 {
     let mut sources = [0; 128];
     let mut sinks = [0; 128];
@@ -74,7 +79,7 @@ pub fn flows_of(flows: [Flow; 128], n: usize) -> Flows
 }
 
 // The shortest required period of the first n flows, and without flows the longest there is.
-pub fn shortest_period(flows: [Flow; 128], n: usize) -> u32
+fn shortest_period(flows: [Flow; 128], n: usize) -> u32
     requires { ⌜ n ≤ 128 ⌝ }
     ensures { λ r. ⌜ r ≡ shortest 1000000000 (periodsOf flows n) ⌝ }
 {
@@ -91,9 +96,9 @@ pub fn shortest_period(flows: [Flow; 128], n: usize) -> u32
 }
 
 // Of each flow how far its path descends: the depth of its sink less that of the path's top.
-pub fn descents_of(parents: &[u8], depths: &[u8], sources: &[u8], sinks: &[u8]) -> [u8; 128]
+fn descents_of(parents: &[u8], depths: &[u8], sources: &[u8], sinks: &[u8]) -> [u8; 128]
     requires { ⌜ FlowsInTree (now parents) (now depths) (now sources) (now sinks) ⌝ }
-    ensures { λ r. ⌜ r ≡ filled (descentAt (now (parents .entry)) (now (sources .entry)) (now (sinks .entry))) (replicate 128 0) (length (now (sources .entry))) ⌝ }
+    ensures { λ r. ⌜ r ≡ descentsOf (now (parents .entry)) (now (sources .entry)) (now (sinks .entry)) ⌝ }
 {
     let mut descents = [0; 128];
     let mut i: usize = 0;
@@ -104,4 +109,42 @@ pub fn descents_of(parents: &[u8], depths: &[u8], sources: &[u8], sinks: &[u8]) 
         i += 1;
     }
     descents
+}
+
+// The figures of accepted records: those of the site that they describe.
+pub fn figures_of(site: Site) -> Figures
+    requires { ⌜ checked site ≡ Accepted ⌝ }
+    ensures { λ r. ⌜ Posed (siteOf site) r ⌝ }
+{
+    let cluster_count = wide(site.cluster_count);
+    let flow_count = wide(site.flow_count);
+    let clusters = site.clusters;
+    let total = portions_of(clusters, cluster_count);
+    let parents = parents_of(clusters, cluster_count);
+    let mut depths = [0; 64];
+    tree::depths(&parents[..cluster_count], &mut depths[..cluster_count]);
+    let flows = site.flows;
+    let shortest = shortest_period(flows, flow_count);
+    let numbers = flows_of(flows, flow_count);
+    let sources = numbers.sources;
+    let sinks = numbers.sinks;
+    let deadlines = numbers.deadlines;
+    let descents = descents_of(
+        &parents[..cluster_count],
+        &depths[..cluster_count],
+        &sources[..flow_count],
+        &sinks[..flow_count],
+    );
+    Figures {
+        cluster_count,
+        flow_count,
+        shortest,
+        total,
+        parents,
+        depths,
+        sources,
+        sinks,
+        descents,
+        deadlines,
+    }
 }

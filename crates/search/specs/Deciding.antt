@@ -1,5 +1,5 @@
 -- What decides the plan of a site: the eligible orders are those between the first and the last, and the largest of them that has a solution is the plan's.
-use mathlib.Core.Path.{_≡_, refl, sym, _∙_}
+use mathlib.Core.Path.{_≡_, refl, sym, ap, _∙_}
 use mathlib.Core.Bool.{true, false, true≢false, _&&_}
 use mathlib.Core.List.{List, [], _∷_}
 use mathlib.Core.Logic.{inl, inr}
@@ -17,7 +17,10 @@ use Rattle.model.specs.SearchResult.{Unsolved, LargestSolved, Result, plan-resu
 use Rattle.model.specs.Sequences.{sequence}
 use Rattle.model.specs.Sites.{Site, Sound}
 use Rattle.search.specs.Monotone.{interval-grows, unsolved-at-larger}
-use Rattle.search.specs.Posed.{Limited, eligible, Ending, Starting, Parted}
+use Rattle.search.specs.declared.Figures.{Figures}
+use Rattle.search.specs.declared.Found.{Found}
+use Rattle.search.specs.declared.Found.the-variants.{Order, NoFit, NoPlacing}
+use Rattle.search.specs.Posed.{Posed, eligible, Ending, Starting, countsAfter, Parted, foundAs, foundCounts, Searched}
 
 -- ## A plan from what is known of every order
 
@@ -83,27 +86,32 @@ module _ (shortest total : ℕ) where
 
 -- ## One order more tried
 
-module _ (s : Site) (w : Sound s) (start end from below : ℕ) (counts : List ℕ) (parted : Parted s start end from below counts) (order : ℕ) where
-  pub order-solved : (d : List ℕ) → solve s order ≡ some d → Parted s start end (order + 1) below d
-  order-solved d e = record { unsolved = parted .unsolved; solved = λ h. let q : order + 1 - 1 ≡ order = omega arith in rw q e }
+module _ (s : Site) (w : Sound s) (start end from below : ℕ) (before counts : List ℕ) (parted : Parted s start end from below before counts) (order : ℕ) where
+  pub order-solved : start ≤ order → (d : List ℕ) → solve s order ≡ some d → Parted s start end (order + 1) below before d
+  order-solved l d e = record {
+    unsolved = parted .unsolved;
+    solved = λ h. let q : order + 1 - 1 ≡ order = omega arith in rw q e;
+    kept = λ h. absurd (omega arith);
+  }
 
-  pub order-unsolved : solve s order ≡ none → Parted s start end from order counts
-  order-unsolved e = record { unsolved = λ larger h l. unsolved-at-larger s w order larger h e; solved = parted .solved }
+  pub order-unsolved : solve s order ≡ none → Parted s start end from order before counts
+  order-unsolved e = record { unsolved = λ larger h l. unsolved-at-larger s w order larger h e; solved = parted .solved; kept = parted .kept }
 
 -- ## The search's answer
 
 module _
     (s : Site)
-    (shortest total start end parting : ℕ)
-    (counts : List ℕ)
-    (limited : Limited s shortest total)
-    (ending : Ending shortest total end)
-    (starting : Starting shortest total end start)
-    (parted : Parted s start end parting parting counts)
+    (figures : Figures)
+    (posed : Posed s figures)
+    (start end parting : ℕ)
+    (before counts : List ℕ)
+    (ending : Ending (figures .shortest) (figures .total) end)
+    (starting : Starting (figures .shortest) (figures .total) end start)
+    (parted : Parted s start end parting parting before counts)
   where
-    candidate-if-eligible : (order : ℕ) → eligible shortest total order ≡ candidate s order
+    candidate-if-eligible : (order : ℕ) → eligible (figures .shortest) (figures .total) order ≡ candidate s order
     unfolding candidate fits
-    candidate-if-eligible order = rw (limited .permits order, limited .sums)
+    candidate-if-eligible order = rw (posed .permits order, posed .sums)
 
     no-candidate-after : (order : ℕ) → end ≤ order → candidate s order ≡ false
     no-candidate-after order h = sym (candidate-if-eligible order) ∙ ending .none-after order h
@@ -117,20 +125,54 @@ module _
     no-candidate-before : (order : ℕ) → order < start → candidate s order ≡ false
     no-candidate-before order h = sym (candidate-if-eligible order) ∙ starting .none-before order h
 
-    pub order-found : start < parting → parting ≤ end → plan s ≡ planned (parting - 1) (sequence s (at counts))
-    order-found h l = plan-found s (parting - 1) counts between (parted .solved h) (λ o g. unsolved-after o (omega arith))
+    pub order-found : start < parting → parting ≤ end → Searched s (Order (parting - 1)) before counts
+    unfolding foundAs foundCounts countsAfter
+    order-found h l = record {
+      outcome = plan-found s (parting - 1) counts between (parted .solved h) (λ o g. unsolved-after o (omega arith));
+      counted = sym (ap (λ r. countsAfter r before) (parted .solved h));
+    }
       where
         between : candidate s (parting - 1) ≡ true
-        between = sym (candidate-if-eligible (parting - 1)) ∙ eligible-between shortest total start (parting - 1) (end - 1) (omega arith) (omega arith) (starting .first (omega arith)) (ending .last (omega arith))
+        between =
+            sym (candidate-if-eligible (parting - 1))
+            ∙ eligible-between _ _ start (parting - 1) (end - 1) (omega arith) (omega arith) (starting .first (omega arith)) (ending .last (omega arith))
 
-    pub no-order-solved : parting ≤ start → start < end → plan s ≡ noPlacing
-    no-order-solved h l = plan-unsolved s start (sym (candidate-if-eligible start) ∙ starting .first l) (λ o c. elim (passes-or-fails (ltb o start)) [
-      | inl t ↦ absurd (true≢false (sym c ∙ no-candidate-before o (ltb-true o start t)))
-      | inr t ↦ unsolved-after o (omega (arith, ltb-false o start t)) c
-    ])
+    pub no-order-solved : parting ≤ start → start < end → Searched s NoPlacing before counts
+    unfolding foundAs foundCounts
+    no-order-solved h l = record {
+      outcome = plan-unsolved s start (sym (candidate-if-eligible start) ∙ starting .first l) (λ o c. elim (passes-or-fails (ltb o start)) [
+        | inl t ↦ absurd (true≢false (sym c ∙ no-candidate-before o (ltb-true o start t)))
+        | inr t ↦ unsolved-after o (omega (arith, ltb-false o start t)) c
+      ]);
+      counted = parted .kept h;
+    }
 
-    pub no-order-fits : end ≤ start → plan s ≡ noFit
-    no-order-fits h = plan-unfitted s (λ o. elim (passes-or-fails (ltb o start)) [
-      | inl t ↦ no-candidate-before o (ltb-true o start t)
-      | inr t ↦ no-candidate-after o (omega (arith, ltb-false o start t))
-    ])
+    pub no-order-fits : parting ≤ start → end ≤ start → Searched s NoFit before counts
+    unfolding foundAs foundCounts
+    no-order-fits h l = record {
+      outcome = plan-unfitted s (λ o. elim (passes-or-fails (ltb o start)) [
+        | inl t ↦ no-candidate-before o (ltb-true o start t)
+        | inr t ↦ no-candidate-after o (omega (arith, ltb-false o start t))
+      ]);
+      counted = parted .kept h;
+    }
+
+-- ## One answer
+
+module _ (s : Site) where
+  abbrev answerOf : Outcome → Found
+  answerOf (planned order sequence) = Order order
+  answerOf noFit = NoFit
+  answerOf noPlacing = NoPlacing
+
+  answer-is : (found : Found) (counts : List ℕ) → answerOf (foundAs found counts s) ≡ found
+  unfolding foundAs
+  answer-is (Order order) counts = refl
+  answer-is NoFit counts = refl
+  answer-is NoPlacing counts = refl
+
+  -- two results that the search may give for a site, from the same counts, are equal, and so are the counts that they leave
+  pub searched-once : {found other : Found} {before counts others : List ℕ} → Searched s found before counts → Searched s other before others → (found ≡ other) × (counts ≡ others)
+  searched-once {found} {other} {before} {counts} {others} a b =
+      let same = sym (answer-is found counts) ∙ ap answerOf (sym (a .outcome) ∙ b .outcome) ∙ answer-is other others in
+      (same, a .counted ∙ ap (λ (r : Found). foundCounts r before s) same ∙ sym (b .counted))

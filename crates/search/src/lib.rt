@@ -3,18 +3,27 @@
 use constraints::Settling;
 use model::Order;
 ghost use mathlib.Core.Path.{_≡_};
-ghost use mathlib.Core.Bool.{_&&_};
-ghost use mathlib.Core.List.{[], _∷_};
-ghost use mathlib.Core.Option.{none};
 ghost use Prim.Native.Nat.{_≤_};
-ghost use lib.Dec.{leb};
 ghost use lib.ListN.{length};
-ghost use Rattle.model.specs.Orders.{largest, interval, permitted};
-ghost use Rattle.model.specs.Plans.{plan};
-ghost use Rattle.model.specs.Relaxing.{solve};
+ghost use Rattle.model.specs.Orders.{largest};
 ghost use Rattle.model.specs.Sites.{Site};
-ghost use Rattle.constraints.specs.Steps.{settledAs};
-ghost use Rattle.search.specs.Posed.{Posed, Limited, Ending, Starting, Parted, foundAs};
+ghost use Rattle.search.specs.Posed.{Posed, eligible, Ending, Starting, Probed, Parted, Searched};
+
+// What the search works on, worked out once for a site: how many clusters and flows it has, the
+// shortest required period, the sum of the portions, and one number for each cluster or flow from
+// the front of each array on. A flow's descent is the downward part of its path.
+pub struct Figures {
+    pub cluster_count: usize,
+    pub flow_count: usize,
+    pub shortest: u32,
+    pub total: u32,
+    pub parents: [u8; 64],
+    pub depths: [u8; 64],
+    pub sources: [u8; 128],
+    pub sinks: [u8; 128],
+    pub descents: [u8; 128],
+    pub deadlines: [u32; 128],
+}
 
 // What the search comes to: the order, or that the portions fit no permitted order, or that no
 // permitted order at which they fit has a solution.
@@ -27,7 +36,7 @@ pub enum Found {
 // Whether an order is permitted by the shortest period and the sum of the portions fits it.
 fn is_candidate(order: Order, shortest: u32, total: u32) -> bool
     requires { ⌜ order .number ≤ largest ⌝ }
-    ensures { λ r. ⌜ r ≡ (permitted (order .number) (shortest ∷ []) && leb total (interval (order .number))) ⌝ }
+    ensures { λ r. ⌜ r ≡ eligible shortest total (order .number) ⌝ }
 {
     let periods = [shortest];
     if !order.permitted(&periods) {
@@ -67,54 +76,33 @@ fn candidates_start(end: u8, shortest: u32, total: u32) -> u8
     start
 }
 
-// Fills `counts` with N of each cluster at an order, or gives that the order has no solution. The
-// relaxing starts at the depths.
-fn settle_at(
-    order: Order,
-    parents: &[u8],
-    sources: &[u8],
-    sinks: &[u8],
-    descents: &[u8],
-    deadlines: &[u32],
-    depths: &[u8],
-    counts: &mut [u8],
-) -> Settling
+// Fills `counts` with N of each cluster at an order, or gives that the order has no solution and
+// leaves them as they are. The relaxing starts at the depths.
+fn probe(order: Order, figures: Figures, counts: &mut [u8]) -> Settling
     requires { ⌜ order .number ≤ largest ⌝ }
-    requires { ⌜ (length (now counts) ≡ length (now parents)) × ((s : Site) × Posed s (now parents) (now sources) (now sinks) (now descents) (now deadlines) (now depths)) ⌝ }
-    ensures { λ r. ⌜ ((s : Site) → Posed s (now (parents .entry)) (now (sources .entry)) (now (sinks .entry)) (now (descents .entry)) (now (deadlines .entry)) (now (depths .entry)) → solve s (order .number) ≡ settledAs r (now (counts .exit))) ⌝ }
+    requires { ⌜ (length (now counts) ≡ figures .«cluster_count») × ((s : Site) × Posed s figures) ⌝ }
+    ensures { λ r. ⌜ ((s : Site) → Posed s figures → Probed s (order .number) r (now (counts .entry)) (now (counts .exit))) ⌝ }
 {
-    let flows = sources.len();
+    let clusters = figures.cluster_count;
+    let flows = figures.flow_count;
+    let descents = figures.descents;
+    let deadlines = figures.deadlines;
     let mut limits = [0; 128];
-    constraints::limit_flows(descents, deadlines, order.interval(), &mut limits[..flows]);
-    bytes::copy(depths, counts);
-    constraints::settle(parents, sources, sinks, &limits[..flows], counts)
-}
-
-// Fills `counts` as `settle_at` does, and leaves them as they are where the order has no solution.
-fn probe(
-    order: Order,
-    parents: &[u8],
-    sources: &[u8],
-    sinks: &[u8],
-    descents: &[u8],
-    deadlines: &[u32],
-    depths: &[u8],
-    counts: &mut [u8],
-) -> Settling
-    requires { ⌜ order .number ≤ largest ⌝ }
-    requires { ⌜ (length (now counts) ≡ length (now parents)) × ((s : Site) × Posed s (now parents) (now sources) (now sinks) (now descents) (now deadlines) (now depths)) ⌝ }
-    ensures { λ r. ⌜ ((s : Site) → Posed s (now (parents .entry)) (now (sources .entry)) (now (sinks .entry)) (now (descents .entry)) (now (deadlines .entry)) (now (depths .entry)) → (solve s (order .number) ≡ settledAs r (now (counts .exit))) × (solve s (order .number) ≡ none → now (counts .exit) ≡ now (counts .entry))) ⌝ }
-{
-    let clusters = counts.len();
-    let mut trial = [0; 64];
-    let settling = settle_at(
-        order,
-        parents,
-        sources,
-        sinks,
-        descents,
-        deadlines,
-        depths,
+    constraints::limit_flows(
+        &descents[..flows],
+        &deadlines[..flows],
+        order.interval(),
+        &mut limits[..flows],
+    );
+    let parents = figures.parents;
+    let sources = figures.sources;
+    let sinks = figures.sinks;
+    let mut trial = figures.depths;
+    let settling = constraints::settle(
+        &parents[..clusters],
+        &sources[..flows],
+        &sinks[..flows],
+        &limits[..flows],
         &mut trial[..clusters],
     );
     match settling {
@@ -126,40 +114,22 @@ fn probe(
     settling
 }
 
-// One more than the largest order from `start` on below `end` that has a solution, and `counts` then
-// has N of each cluster at it; `start` where none has one. The largest is tried first, and then the
-// one in the middle of those that are left: a smaller order has a solution if a larger one has.
-fn solved_end(
-    start: u8,
-    end: u8,
-    parents: &[u8],
-    sources: &[u8],
-    sinks: &[u8],
-    descents: &[u8],
-    deadlines: &[u32],
-    depths: &[u8],
-    counts: &mut [u8],
-) -> u8
+// One more than the largest order from `start` on below `end` that has a solution, with N of each
+// cluster at it in `counts`; `start` where none has one, with `counts` as they were. The largest is
+// tried first, and then the one in the middle of those that are left: a smaller order has a
+// solution if a larger one has.
+fn solved_end(start: u8, end: u8, figures: Figures, counts: &mut [u8]) -> u8
     requires { ⌜ (start ≤ end) × (end ≤ 15) ⌝ }
-    requires { ⌜ (length (now counts) ≡ length (now parents)) × ((s : Site) × Posed s (now parents) (now sources) (now sinks) (now descents) (now deadlines) (now depths)) ⌝ }
+    requires { ⌜ (length (now counts) ≡ figures .«cluster_count») × ((s : Site) × Posed s figures) ⌝ }
     ensures { λ r. ⌜ (start ≤ r) × (r ≤ end) ⌝ }
-    ensures { λ r. ⌜ ((s : Site) → Posed s (now (parents .entry)) (now (sources .entry)) (now (sinks .entry)) (now (descents .entry)) (now (deadlines .entry)) (now (depths .entry)) → Parted s start end r r (now (counts .exit))) ⌝ }
+    ensures { λ r. ⌜ ((s : Site) → Posed s figures → Parted s start end r r (now (counts .entry)) (now (counts .exit))) ⌝ }
 {
     let mut from = start;
     let mut below = end;
     let mut step: u8 = 1;
     while from < below {
         let order = below - step;
-        let settling = probe(
-            Order::new(order),
-            parents,
-            sources,
-            sinks,
-            descents,
-            deadlines,
-            depths,
-            counts,
-        );
+        let settling = probe(Order::new(order), figures, counts);
         match settling {
             Settling::Settled => from = order + 1,
             Settling::NegativeLoop => below = order,
@@ -169,35 +139,15 @@ fn solved_end(
     from
 }
 
-// The largest order that `shortest` permits, at which portions of that sum fit and which has a
-// solution; `counts` then has N of each cluster.
-pub fn search(
-    parents: &[u8],
-    sources: &[u8],
-    sinks: &[u8],
-    descents: &[u8],
-    deadlines: &[u32],
-    depths: &[u8],
-    shortest: u32,
-    total: u32,
-    counts: &mut [u8],
-) -> Found
-    requires { ⌜ (length (now counts) ≡ length (now parents)) × ((s : Site) × Posed s (now parents) (now sources) (now sinks) (now descents) (now deadlines) (now depths)) ⌝ }
-    ensures { λ r. ⌜ ((s : Site) → Posed s (now (parents .entry)) (now (sources .entry)) (now (sinks .entry)) (now (descents .entry)) (now (deadlines .entry)) (now (depths .entry)) → Limited s shortest total → plan s ≡ foundAs r (now (counts .exit)) s) ⌝ }
+// The largest permitted order at which the portions fit and which has a solution, with N of each
+// cluster in `counts`; these stay as they were where there is none.
+pub fn search(figures: Figures, counts: &mut [u8]) -> Found
+    requires { ⌜ (length (now counts) ≡ figures .«cluster_count») × ((s : Site) × Posed s figures) ⌝ }
+    ensures { λ r. ⌜ ((s : Site) → Posed s figures → Searched s r (now (counts .entry)) (now (counts .exit))) ⌝ }
 {
-    let end = candidates_end(shortest, total);
-    let start = candidates_start(end, shortest, total);
-    let solved = solved_end(
-        start,
-        end,
-        parents,
-        sources,
-        sinks,
-        descents,
-        deadlines,
-        depths,
-        counts,
-    );
+    let end = candidates_end(figures.shortest, figures.total);
+    let start = candidates_start(end, figures.shortest, figures.total);
+    let solved = solved_end(start, end, figures, counts);
     if start < solved {
         return Found::Order(solved - 1);
     }

@@ -1,66 +1,193 @@
--- `search::probe` meets its contract: what the trial settles to is copied over all of the counts, and only then.
-use mathlib.Core.Path.{_≡_, refl, sym, ap, _∙_}
+-- `search::probe` meets its contract: the list that is made with the flows' limits says the site's constraints behind the bias, and relaxed from the depths it settles as they do. What the
+-- trial settles to is copied over all of the counts, and only then.
+use mathlib.Core.Path.{_≡_, sym, ap, _∙_}
 use mathlib.Core.List.{List, _++_}
-use mathlib.Core.Option.{some}
 use Prim.Native.Nat.{ℕ, _≤_}
 use native.Mathlib.Omega.{arith}
-use lib.ListN.{length, take, drop, replicate, length-append}
-use lib.Seq.{length-take-le, take-append-seam}
+use lib.ListN.{length, take, drop, replicate}
+use lib.Seq.{length-take-le, length-front, take-at}
+use Rattle.model.specs.Orders.{interval}
+use Rattle.model.specs.OrderLaws.{order-has-length}
 use Rattle.model.specs.Relaxing.{solve}
+use Rattle.model.specs.Sites.{Site}
+use Rattle.constraints.specs.declared.Settling.{Settling}
+use Rattle.constraints.specs.Entries.{limitsOf}
 use Rattle.constraints.specs.Steps.{settledAs}
-use Rattle.search.specs.PosedLaws.{clusters-number, copied}
+use Rattle.search.specs.declared.Figures.{Figures}
+use Rattle.search.specs.Monotone.{interval-positive}
+use Rattle.search.specs.Posed.{Posed, countsAfter}
+use Rattle.search.specs.PosedLaws.{clusters-fit, flows-fit, parents-reach, depths-reach, sources-reach, sinks-reach, descents-reach, deadlines-reach, descents-shallow, list-within, list-settles, copied}
 use borrow.Author.Needs.{needs}
 use Rattle.search.proofs.probe.Statement.{statement}
 use Rattle.search.proofs.probe.Tie as tie
 
 abbrev zeros : List ℕ
-zeros = replicate 64 0
+zeros = replicate 128 0
 
-fits : (c : tie.Start) → length (c .args .counts .now) ≤ 64
-fits c = let posed = c .pre .1 .1 .1 in omega (arith, clusters-number _ _ _ _ _ _ _ posed, posed .few, c .pre .1 .0)
-
--- once the trial is there: it is the array's front
-module _ (c : tie.After-settle-at) where
+-- before anything is lent
+module _ (c : tie.After-deadlines) where
   abbrev start : tie.Start
-  start = c .before .before .before .before .before .before .before .before .before
+  start = c .before .before .before
+
+  abbrev figures : Figures
+  figures = start .args .figures
 
   abbrev clusters : ℕ
-  clusters = length (start .args .counts .now)
+  clusters = figures .«cluster_count»
+
+  abbrev flows : ℕ
+  flows = figures .«flow_count»
+
+  posed : Posed (start .pre .1 .1 .0) figures
+  posed = start .pre .1 .1 .1
+
+-- once the limits are there: they are the array's front
+module _ (c : tie.After-limit-flows) where
+  abbrev lent : tie.After-deadlines
+  lent = c .before .before .before .before .before
+
+  abbrev limits : List ℕ
+  limits = c .limit-flows .last .1 .1 .1 .0 ++ drop (flows lent) zeros
+
+  length-is : c .before .before .interval .result ≡ interval (start lent .args .order .number)
+  length-is = c .before .before .interval .ensures ∙ order-has-length interval _ (start lent .pre .0)
+
+  limits-fit : flows lent ≤ length limits
+  limits-fit = omega (arith, flows-fit _ _ (posed lent), length-front zeros (c .limit-flows .last .1 .1 .1 .0) (flows lent) (c .limit-flows .kept .1 .1 .1 .0))
+
+  limits-number : length (take (flows lent) limits) ≡ flows lent
+  limits-number = length-take-le (flows lent) limits limits-fit
+
+  limits-are : take (flows lent) limits ≡ limitsOf (take (flows lent) (figures lent .descents)) (take (flows lent) (figures lent .deadlines)) (c .before .before .interval .result)
+  limits-are =
+      take-at _ (drop (flows lent) zeros) (flows lent) (c .limit-flows .kept .1 .1 .1 .0 ∙ length-take-le (flows lent) zeros (flows-fit _ _ (posed lent)))
+      ∙ c .limit-flows .ensures
+
+-- once the trial is the depths
+module _ (c : tie.After-trial) where
+  abbrev made : tie.After-limit-flows
+  made = c .before .before .before .before .before
+
+  abbrev first : tie.After-deadlines
+  first = lent made
+
+-- once it is settled: it is the array's front
+module _ (c : tie.After-settle) where
+  abbrev ready : tie.After-trial
+  ready = c .before .before .before .before .before .before
+
+  abbrev begun : tie.After-deadlines
+  begun = first ready
 
   abbrev trial : List ℕ
-  trial = c .settle-at .last .1 .1 .1 .1 .1 .1 .1 .0
+  trial = c .settle .last .1 .1 .1 .1 .0
 
-  trial-number : length trial ≡ clusters
-  trial-number = c .settle-at .kept .1 .1 .1 .1 .1 .1 .1 .0 ∙ length-take-le clusters zeros (fits start)
+  abbrev whole : List ℕ
+  whole = trial ++ drop (clusters begun) (figures begun .depths)
 
-  front : take clusters (trial ++ drop clusters zeros) ≡ trial
-  front = ap (λ (n : ℕ). take n (trial ++ drop clusters zeros)) (sym trial-number) ∙ take-append-seam trial (drop clusters zeros)
+  trial-number : length trial ≡ clusters begun
+  trial-number = c .settle .kept .1 .1 .1 .1 .0 ∙ depths-reach _ _ (posed begun) .number
 
-  front-fits : clusters ≤ length (trial ++ drop clusters zeros)
-  front-fits = omega (arith, trial-number, length-append trial (drop clusters zeros))
+  trial-is : take (clusters begun) whole ≡ trial
+  trial-is = take-at trial _ (clusters begun) trial-number
+
+  trial-fits : clusters begun ≤ length whole
+  trial-fits = omega (arith, depths-reach _ _ (posed begun) .fits, length-front (figures begun .depths) trial (clusters begun) (c .settle .kept .1 .1 .1 .1 .0))
+
+  solves-as : (s : Site) → Posed s (figures begun) → {r : Settling} → c .settle .result ≡ r → solve s (start begun .args .order .number) ≡ settledAs r trial
+  solves-as s p e = sym (list-settles s _ p _ _ _ (limits-are (made ready)) (length-is (made ready))) ∙ c .settle .ensures .0 ∙ ap (λ (r : Settling). settledAs r trial) e
+
+array-share-prefix-descents : tie.Need-array-share-prefix-descents
+array-share-prefix-descents c = descents-reach _ _ (posed c) .fits
+
+slice-aggregate-limit-flows : tie.Need-slice-aggregate-limit-flows
+slice-aggregate-limit-flows c = sym (descents-reach _ _ (posed (c .before)) .number)
+
+array-share-prefix-deadlines : tie.Need-array-share-prefix-deadlines
+array-share-prefix-deadlines c = deadlines-reach _ _ (posed (c .before)) .fits
+
+slice-aggregate-limit-flows-2 : tie.Need-slice-aggregate-limit-flows-2
+slice-aggregate-limit-flows-2 c = sym (deadlines-reach _ _ (posed (c .before .before)) .number)
+
+interval-requires : tie.Need-interval-requires
+interval-requires c κs = search needs
+
+array-borrow-prefix-limits : tie.Need-array-borrow-prefix-limits
+array-borrow-prefix-limits c = flows-fit _ _ (posed (c .before .before .before))
+
+slice-aggregate-limit-flows-3 : tie.Need-slice-aggregate-limit-flows-3
+slice-aggregate-limit-flows-3 c = sym (length-take-le _ zeros (flows-fit _ _ (posed (c .before .before .before .before))))
+
+limit-flows-requires : tie.Need-limit-flows-requires
+limit-flows-requires c κs =
+    let lent = c .before .before .before .before in
+    let descents = descents-reach _ _ (posed lent) .number in
+    let length-is : c .before .interval .result ≡ interval (start lent .args .order .number) = c .before .interval .ensures ∙ order-has-length interval _ (start lent .pre .0) in (
+      omega (arith, length-is, interval-positive (start lent .args .order .number)),
+      descents-shallow _ _ (posed lent),
+      deadlines-reach _ _ (posed lent) .number ∙ sym descents,
+      length-take-le _ zeros (flows-fit _ _ (posed lent)) ∙ sym descents,
+    )
+
+array-share-prefix-parents : tie.Need-array-share-prefix-parents
+array-share-prefix-parents c = parents-reach _ _ (posed (first c)) .fits
+
+slice-aggregate-settle : tie.Need-slice-aggregate-settle
+slice-aggregate-settle c = sym (parents-reach _ _ (posed (first (c .before))) .number)
+
+array-share-prefix-sources : tie.Need-array-share-prefix-sources
+array-share-prefix-sources c = sources-reach _ _ (posed (first (c .before))) .fits
+
+slice-aggregate-settle-2 : tie.Need-slice-aggregate-settle-2
+slice-aggregate-settle-2 c = sym (sources-reach _ _ (posed (first (c .before .before))) .number)
+
+array-share-prefix-sinks : tie.Need-array-share-prefix-sinks
+array-share-prefix-sinks c = sinks-reach _ _ (posed (first (c .before .before))) .fits
+
+slice-aggregate-settle-3 : tie.Need-slice-aggregate-settle-3
+slice-aggregate-settle-3 c = sym (sinks-reach _ _ (posed (first (c .before .before .before))) .number)
+
+array-share-prefix-limits : tie.Need-array-share-prefix-limits
+array-share-prefix-limits c = limits-fit (made (c .before .before .before))
+
+slice-aggregate-settle-4 : tie.Need-slice-aggregate-settle-4
+slice-aggregate-settle-4 c = sym (limits-number (made (c .before .before .before .before)))
 
 array-borrow-prefix-trial : tie.Need-array-borrow-prefix-trial
-array-borrow-prefix-trial c = fits (c .before .before .before .before .before .before .before)
+array-borrow-prefix-trial c = depths-reach _ _ (posed (first (c .before .before .before .before))) .fits
 
-slice-aggregate-settle-at : tie.Need-slice-aggregate-settle-at
-slice-aggregate-settle-at c = sym (length-take-le _ zeros (fits (c .before .before .before .before .before .before .before .before)))
+slice-aggregate-settle-5 : tie.Need-slice-aggregate-settle-5
+slice-aggregate-settle-5 c = sym (depths-reach _ _ (posed (first (c .before .before .before .before .before))) .number)
 
-settle-at-requires : tie.Need-settle-at-requires
-settle-at-requires c κs = let first = c .before .before .before .before .before .before .before .before in
-    (first .pre .0, (length-take-le _ zeros (fits first) ∙ first .pre .1 .0, first .pre .1 .1))
+settle-requires : tie.Need-settle-requires
+settle-requires c κs =
+    let made = made (c .before .before .before .before .before) in
+    let posed = posed (lent made) in
+    let parents = parents-reach _ _ posed .number in
+    let sources = sources-reach _ _ posed .number in (
+      (
+        omega (arith, parents, clusters-fit _ _ posed .0),
+        omega (arith, parents, clusters-fit _ _ posed .1),
+        omega (arith, sources, flows-fit _ _ posed),
+        sinks-reach _ _ posed .number ∙ sym sources,
+        limits-number made ∙ sym sources,
+      ),
+      list-within _ _ posed _ _ _ (limits-are made) (length-is made) _ (depths-reach _ _ posed .number ∙ posed .clusters-counted),
+    )
 
 enum-told : tie.Need-enum-told
 enum-told c = search needs
 
 array-share-prefix-trial : tie.Need-array-share-prefix-trial
-array-share-prefix-trial c = front-fits (c .before .before .before)
+array-share-prefix-trial c = trial-fits (c .before .before .before)
 
 slice-aggregate-copy : tie.Need-slice-aggregate-copy
-slice-aggregate-copy c = sym (length-take-le _ _ (front-fits (c .before .before .before .before)))
+slice-aggregate-copy c = sym (length-take-le _ _ (trial-fits (c .before .before .before .before)))
 
 copy-requires : tie.Need-copy-requires
-copy-requires c κs = let done = c .before .before .before .before .before in
-    omega (arith, length-take-le (clusters done) (trial done ++ drop (clusters done) zeros) (front-fits done))
+copy-requires c κs =
+    let settled = c .before .before .before .before .before in
+    omega (arith, length-take-le (clusters (begun settled)) (whole settled) (trial-fits settled), start (begun settled) .pre .1 .0)
 
 enum-told-2 : tie.Need-enum-told-2
 enum-told-2 c = search needs
@@ -69,27 +196,46 @@ same-length : tie.Need-same-length
 same-length c = search needs
 
 returns : tie.Need-returns
-unfolding settledAs
+unfolding settledAs countsAfter
 returns c = λ s posed.
-    let done = c .before .before .before .before .before .before .before .before in
-    let counts = start done .args .counts .now in
+    let settled = c .before .before .before .before .before .before .before .before in
+    let counts = start (begun settled) .args .counts .now in
     let told = c .before .before .before .before .before .enum-told .given .1 in
-    let solves : solve s (start done .args .order .number) ≡ some (trial done) = rw told at (done .settle-at .ensures s posed) in
-    let all = length-take-le (clusters done) (trial done ++ drop (clusters done) zeros) (front-fits done) in
-    let over : c .before .before .copy .last .1 .0 ≡ trial done = c .before .before .copy .ensures .1 ∙ copied _ counts (sym all) ∙ front done in
-    (rw (told, over) solves, λ e. let z : _≡_ {A = ℕ} 0 1 = cc in absurd (omega arith))
+    let all = start (begun settled) .pre .1 .0 ∙ sym (length-take-le (clusters (begun settled)) (whole settled) (trial-fits settled)) in
+    let over : c .before .before .copy .last .1 .0 ≡ trial settled = c .before .before .copy .ensures .1 ∙ copied _ counts all ∙ trial-is settled in
+    let solution = solves-as settled s posed told in
+    record { solution = rw (told, over) solution; counted = rw (over, solution) }
 
 returns-2 : tie.Need-returns-2
-unfolding settledAs
-returns-2 c = λ s posed. (rw (c .enum-told2 .given .1) (rw (c .enum-told2 .given .1) at (c .before .before .before .settle-at .ensures s posed)), λ e. refl)
+unfolding settledAs countsAfter
+returns-2 c = λ s posed.
+    let told = c .enum-told2 .given .1 in
+    let solution = solves-as (c .before .before .before) s posed told in
+    record { solution = rw told solution; counted = rw solution }
 
 pub probe-spec : {M : Type 1} → statement M
 probe-spec =
     tie.close
     (tie.spec
+    array-share-prefix-descents
+    slice-aggregate-limit-flows
+    array-share-prefix-deadlines
+    slice-aggregate-limit-flows-2
+    interval-requires
+    array-borrow-prefix-limits
+    slice-aggregate-limit-flows-3
+    limit-flows-requires
+    array-share-prefix-parents
+    slice-aggregate-settle
+    array-share-prefix-sources
+    slice-aggregate-settle-2
+    array-share-prefix-sinks
+    slice-aggregate-settle-3
+    array-share-prefix-limits
+    slice-aggregate-settle-4
     array-borrow-prefix-trial
-    slice-aggregate-settle-at
-    settle-at-requires
+    slice-aggregate-settle-5
+    settle-requires
     enum-told
     array-share-prefix-trial
     slice-aggregate-copy

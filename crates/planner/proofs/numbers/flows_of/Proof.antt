@@ -1,16 +1,15 @@
 -- `planner::numbers::flows_of` meets its contract. The invariant: the numbers of the flows before `i` are filled in.
-use mathlib.Core.Path.{_≡_, refl, ap, _∙_}
+use mathlib.Core.Path.{_≡_, refl}
 use Prim.Native.Nat.{_-_, _≤_}
 use native.Mathlib.Omega.{arith}
-use lib.ListN.{getD, replicate}
 use Rattle.hexline.specs.Loops.{filled, filled-next}
-use Rattle.site.specs.Records.{noFlow}
+use Rattle.planner.specs.Numbers.{flowsOf}
 use borrow.Author.Needs.{needs}
 use Rattle.planner.proofs.numbers.flows_of.Statement.{statement}
 use Rattle.planner.proofs.numbers.flows_of.Tie as tie
 
 abbrev Inv-loop : tie.InvT-loop
-Inv-loop n flows sources₀ sinks₀ deadlines₀ i₀ sources sinks deadlines i = (i ≤ n) × (sources ≡ filled (λ j. getD flows j noFlow .source) (replicate 128 0) i) × (sinks ≡ filled (λ j. getD flows j noFlow .sink) (replicate 128 0) i) × (deadlines ≡ filled (λ j. getD flows j noFlow .deadline) (replicate 128 0) i)
+Inv-loop n flows sources₀ sinks₀ deadlines₀ i₀ sources sinks deadlines i = (i ≤ n) × (sources ≡ flowsOf flows i .sources) × (sinks ≡ flowsOf flows i .sinks) × (deadlines ≡ flowsOf flows i .deadlines)
 
 abbrev μ-loop : tie.MeasureT-loop
 μ-loop n flows sources₀ sinks₀ deadlines₀ i₀ sources sinks deadlines i = n - i
@@ -52,7 +51,7 @@ returns : tie.Need-returns Inv-loop μ-loop
 returns c =
     let all : c .before .loop .i ≡ c .before .before .args .n = omega arith in
     let inv = c .before .loop .inv in
-    cc (inv .1 ∙ ap (filled _ _) all, inv .2 ∙ ap (filled _ _) all, inv .3 ∙ ap (filled _ _) all)
+    rw (inv .1, inv .2, inv .3, all)
 
 pub flows-of-spec : {M : Type 1} → statement M
 flows-of-spec =

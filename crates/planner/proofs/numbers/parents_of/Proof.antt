@@ -2,15 +2,14 @@
 use mathlib.Core.Path.{_≡_, refl, ap, _∙_}
 use Prim.Native.Nat.{_-_, _≤_}
 use native.Mathlib.Omega.{arith}
-use lib.ListN.{getD, replicate}
 use Rattle.hexline.specs.Loops.{filled, filled-next}
-use Rattle.site.specs.Records.{absent}
+use Rattle.planner.specs.Numbers.{parentsOf}
 use borrow.Author.Needs.{needs}
 use Rattle.planner.proofs.numbers.parents_of.Statement.{statement}
 use Rattle.planner.proofs.numbers.parents_of.Tie as tie
 
 abbrev Inv-loop : tie.InvT-loop
-Inv-loop n clusters parents₀ i₀ parents i = (i ≤ n) × (parents ≡ filled (λ j. getD clusters j absent .parent) (replicate 64 0) i)
+Inv-loop n clusters parents₀ i₀ parents i = (i ≤ n) × (parents ≡ parentsOf clusters i)
 
 abbrev μ-loop : tie.MeasureT-loop
 μ-loop n clusters parents₀ i₀ parents i = n - i
