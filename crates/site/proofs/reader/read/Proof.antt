@@ -8,14 +8,16 @@ use Prim.Native.Nat.{ℕ, _+_, _-_, _≤_, _<_}
 use native.Mathlib.Omega.{arith}
 use lib.ListN.{length, getD, drop}
 use Rattle.hexline.specs.Loops.{every, every-none, every-more}
-use Rattle.hexline.specs.Lines.{lineLength}
+use Rattle.hexline.specs.Lines.{Row, lineLength}
 use Rattle.hexline.specs.LineLaws.{line-inside, rowAt}
+use Rattle.site.specs.declared.Entry.the-variants.{Cluster as ClusterLine, Flow as FlowLine}
 use Rattle.site.specs.declared.Site.{Site}
 use Rattle.site.specs.Records.{absent, sameTag}
 use Rattle.site.specs.TagLaws.{tag-is-taken, tag-not-taken}
 use Rattle.site.specs.Reading.{withHeader, withCluster, withFlow, readText}
-use Rattle.site.specs.ReadLaws.{header-is, cluster-is, flow-is}
-use Rattle.site.specs.LeftLaws.{leftAt, left-start, left-refused, left-header, left-repeated, left-cluster, left-flow, left-none, left-missing, Sized, sized-start, sized-header, sized-cluster, sized-flow}
+use Rattle.site.specs.ReadLaws.{header-is, ClusterIs, cluster-is, FlowIs, flow-is}
+use Rattle.site.specs.LeftLaws.{leftAt, left-start, left-refused, left-header, left-repeated, left-cluster, left-flow, left-none, left-missing}
+use Rattle.site.specs.LeftLaws.{Sized, sized-start, sized-header, sized-cluster, sized-flow}
 use borrow.Author.Needs.{needs}
 use Rattle.site.proofs.reader.read.Statement.{statement}
 use Rattle.site.proofs.reader.read.Tie as tie
@@ -60,6 +62,9 @@ ended turn = turn .before .before .line-end .ensures
 inside : (turn : Turn) → end turn ≤ length (text turn)
 inside turn = line-inside (text turn) (at turn) (end turn) (omega (arith, running turn)) (ended turn)
 
+onward : (turn : Turn) → length (text turn) + 1 - (end turn + 1) < length (text turn) + 1 - at turn
+onward turn = omega (arith, inside turn, ended turn, running turn)
+
 so-far : (turn : Turn) → leftAt (text turn) (at turn) (number turn) (records turn) ≡ readText (text turn)
 so-far turn = turn .before .before .before .before .loop .inv .0
 
@@ -68,6 +73,49 @@ sized turn = turn .before .before .before .before .loop .inv .1
 
 few : (turn : Turn) → number turn ≤ at turn + 1
 few turn = turn .before .before .before .before .loop .inv .2
+
+-- the line that the reader was given
+abbrev row : Turn → Row
+row turn = rowAt (text turn) (at turn) (end turn)
+
+abbrev clusters : Turn → ℕ
+clusters turn = records turn .«cluster_count»
+
+abbrev flows : Turn → ℕ
+flows turn = records turn .«flow_count»
+
+-- what is known of it where the reader answers with a cluster, and with a flow
+module _ (turn : Turn) where
+  cluster-line : {p o a m : ℕ} → turn .read-line .result ≡ ClusterLine p o a m → ClusterIs (number turn) (clusters turn) (flows turn) (records turn .clusters) (row turn) p o a m
+  cluster-line e = cluster-is (number turn) (clusters turn) (flows turn) (records turn .clusters) (row turn) _ _ _ _ (sym (turn .read-line .ensures) ∙ e)
+
+  flow-line : {a b p d : ℕ} → turn .read-line .result ≡ FlowLine a b p d → FlowIs (number turn) (clusters turn) (flows turn) (records turn .clusters) (row turn) a b p d
+  flow-line e = flow-is (number turn) (clusters turn) (flows turn) (records turn .clusters) (row turn) _ _ _ _ (sym (turn .read-line .ensures) ∙ e)
+
+-- a cluster's line is the second or a later one, and its cluster has room
+cluster-room : (c : tie.After-entry3 Inv-loop2 μ-loop2 Inv-loop μ-loop) →
+    let turn = c .before .before in
+    (1 < number turn) × (number turn ≤ 65) × (number turn ≤ 1 + length (records turn .clusters))
+cluster-room c =
+    let line = cluster-line (c .before .before) (c .entry3 .given .1) in
+    let all = sized (c .before .before) in
+    (line .after, omega (arith, line .within, all .clusters), omega (arith, line .within, all .clusters, all .clusterRoom))
+
+-- a flow's line comes after the clusters', and its flow has room
+flow-room : (c : tie.After-entry4 Inv-loop2 μ-loop2 Inv-loop μ-loop) →
+    let turn = c .before .before in
+    (1 + clusters turn < number turn) × (number turn ≤ 1 + clusters turn + 128) × (number turn ≤ 1 + clusters turn + length (records turn .flows))
+flow-room c =
+    let line = flow-line (c .before .before) (c .entry4 .given .1) in
+    let all = sized (c .before .before) in
+    (line .after, omega (arith, line .within, all .flows), omega (arith, line .within, all .flows, all .flowRoom))
+
+-- past the last line
+abbrev last : tie.After-due-at Inv-loop2 μ-loop2 Inv-loop μ-loop → tie.At-loop Inv-loop2 μ-loop2 Inv-loop μ-loop
+last due = due .before .before
+
+abbrev whole : tie.After-due-at Inv-loop2 μ-loop2 Inv-loop μ-loop → List ℕ
+whole due = last due .before .before .before .args .text .now
 
 no-site-requires : tie.Need-no-site-requires Inv-loop2 μ-loop2 Inv-loop μ-loop
 no-site-requires c κs = search needs
@@ -114,48 +162,35 @@ enum-known-entry-2 : tie.Need-enum-known-entry-2 Inv-loop2 μ-loop2 Inv-loop μ-
 enum-known-entry-2 c = search needs
 
 loop-less : tie.Need-loop-less Inv-loop2 μ-loop2 Inv-loop μ-loop
-loop-less c =
-    let turn = c .before .before .before in
-    omega (arith, inside turn, ended turn, running turn)
+loop-less c = onward (c .before .before .before)
 
 loop-again : tie.Need-loop-again Inv-loop2 μ-loop2 Inv-loop μ-loop
 unfolding withHeader
 loop-again c =
     let turn = c .before .before .before in
-    let is = sym (turn .read-line .ensures) ∙ c .before .entry2 .given .1 in
-    let line = header-is (number turn) (records turn .«cluster_count») (records turn .«flow_count») (records turn .clusters) (rowAt (text turn) (at turn) (end turn)) _ _ is in
-    (sym (left-header (text turn) (at turn) (number turn) (records turn) (end turn) (running turn) (ended turn) _ _ line) ∙ so-far turn, sized-header (records turn) (sized turn) _ _ (line .fewClusters) (line .fewFlows), omega (arith, few turn, ended turn), omega (arith, inside turn))
+    let line = header-is (number turn) (clusters turn) (flows turn) (records turn .clusters) (row turn) _ _ (sym (turn .read-line .ensures) ∙ c .before .entry2 .given .1) in
+    let left = left-header (text turn) (at turn) (number turn) (records turn) (end turn) (running turn) (ended turn) _ _ line in
+    (sym left ∙ so-far turn, sized-header (records turn) (sized turn) _ _ (line .fewClusters) (line .fewFlows), omega (arith, few turn, ended turn), omega (arith, inside turn))
 
 enum-known-entry-3 : tie.Need-enum-known-entry-3 Inv-loop2 μ-loop2 Inv-loop μ-loop
 enum-known-entry-3 c = search needs
 
 tag-at-requires : tie.Need-tag-at-requires Inv-loop2 μ-loop2 Inv-loop μ-loop
 tag-at-requires c κs =
-    let turn = c .before .before .before in
-    let is = sym (turn .read-line .ensures) ∙ c .before .entry3 .given .1 in
-    let line = cluster-is (number turn) (records turn .«cluster_count») (records turn .«flow_count») (records turn .clusters) (rowAt (text turn) (at turn) (end turn)) _ _ _ _ is in
+    let line = cluster-line (c .before .before .before) (c .before .entry3 .given .1) in
     (line .short, line .inside)
 
 sub-i : tie.Need-sub-i Inv-loop2 μ-loop2 Inv-loop μ-loop
-sub-i c =
-    let turn = c .before .before .before .before in
-    let line = cluster-is (number turn) (records turn .«cluster_count») (records turn .«flow_count») (records turn .clusters) (rowAt (text turn) (at turn) (end turn)) _ _ _ _ (sym (turn .read-line .ensures) ∙ c .before .before .entry3 .given .1) in
-    omega (arith, line .after)
+sub-i c = omega (arith, cluster-room (c .before .before))
 
 loop2-holds : tie.Need-loop2-holds Inv-loop2 μ-loop2 Inv-loop μ-loop
 loop2-holds c = (search needs, every-none _)
 
 mul-earlier : tie.Need-mul-earlier Inv-loop2 μ-loop2 Inv-loop μ-loop
-mul-earlier c =
-    let turn = c .before .before .before .before .before .before in
-    let line = cluster-is (number turn) (records turn .«cluster_count») (records turn .«flow_count») (records turn .clusters) (rowAt (text turn) (at turn) (end turn)) _ _ _ _ (sym (turn .read-line .ensures) ∙ c .before .before .before .before .entry3 .given .1) in
-    omega (arith, c .loop2-test .taken, line .after, line .within, sized turn .clusters, sized turn .clusterRoom)
+mul-earlier c = omega (arith, c .loop2-test .taken, cluster-room (c .before .before .before .before))
 
 element-copy-out-earlier : tie.Need-element-copy-out-earlier Inv-loop2 μ-loop2 Inv-loop μ-loop
-element-copy-out-earlier c =
-    let turn = c .before .before .before .before .before .before in
-    let line = cluster-is (number turn) (records turn .«cluster_count») (records turn .«flow_count») (records turn .clusters) (rowAt (text turn) (at turn) (end turn)) _ _ _ _ (sym (turn .read-line .ensures) ∙ c .before .before .before .before .entry3 .given .1) in
-    omega (arith, c .loop2-test .taken, line .after, line .within, sized turn .clusters, sized turn .clusterRoom)
+element-copy-out-earlier c = omega (arith, c .loop2-test .taken, cluster-room (c .before .before .before .before))
 
 same-tag-requires : tie.Need-same-tag-requires Inv-loop2 μ-loop2 Inv-loop μ-loop
 same-tag-requires c κs = search needs
@@ -166,9 +201,12 @@ refused-requires-2 c κs = search needs
 returns-2 : tie.Need-returns-2 Inv-loop2 μ-loop2 Inv-loop μ-loop
 returns-2 c =
     let turn = c .before .before .before .before .before .before .before .before .before .before in
-    let line = cluster-is (number turn) (records turn .«cluster_count») (records turn .«flow_count») (records turn .clusters) (rowAt (text turn) (at turn) (end turn)) _ _ _ _ (sym (turn .read-line .ensures) ∙ c .before .before .before .before .before .before .before .before .entry3 .given .1) in
+    let line = cluster-line turn (c .before .before .before .before .before .before .before .before .entry3 .given .1) in
     let tag = c .before .before .before .before .before .before .tag-at in
-    c .refused2 .ensures ∙ sym (left-repeated (text turn) (at turn) (number turn) (records turn) (end turn) (running turn) (ended turn) _ _ _ _ line (tag .result) (tag .ensures) (tag-is-taken _ _ _ (c .before .before .before .before .before .loop2 .j) (c .before .before .before .before .loop2-test .taken) (sym (c .before .before .same-tag .ensures) ∙ c .before .if1 .taken))) ∙ so-far turn
+    let earlier = c .before .before .before .before .before .loop2 .j in
+    let taken = tag-is-taken _ _ _ earlier (c .before .before .before .before .loop2-test .taken) (sym (c .before .before .same-tag .ensures) ∙ c .before .if1 .taken) in
+    let left = left-repeated (text turn) (at turn) (number turn) (records turn) (end turn) (running turn) (ended turn) _ _ _ _ line (tag .result) (tag .ensures) taken in
+    c .refused2 .ensures ∙ sym left ∙ so-far turn
 
 add-j : tie.Need-add-j Inv-loop2 μ-loop2 Inv-loop μ-loop
 add-j c = search needs
@@ -180,73 +218,53 @@ loop2-again : tie.Need-loop2-again Inv-loop2 μ-loop2 Inv-loop μ-loop
 loop2-again c = (search needs, every-more _ _ (c .before .before .before .before .loop2 .inv .1) (ap not (sym (c .before .same-tag .ensures) ∙ c .if1 .left)))
 
 mul-cluster : tie.Need-mul-cluster Inv-loop2 μ-loop2 Inv-loop μ-loop
-mul-cluster c =
-    let turn = c .before .before .before .before .before .before in
-    let line = cluster-is (number turn) (records turn .«cluster_count») (records turn .«flow_count») (records turn .clusters) (rowAt (text turn) (at turn) (end turn)) _ _ _ _ (sym (turn .read-line .ensures) ∙ c .before .before .before .before .entry3 .given .1) in
-    omega (arith, line .after, line .within, sized turn .clusters, sized turn .clusterRoom)
+mul-cluster c = omega (arith, cluster-room (c .before .before .before .before))
 
 element-set-from-cluster : tie.Need-element-set-from-cluster Inv-loop2 μ-loop2 Inv-loop μ-loop
-element-set-from-cluster c =
-    let turn = c .before .before .before .before .before .before in
-    let line = cluster-is (number turn) (records turn .«cluster_count») (records turn .«flow_count») (records turn .clusters) (rowAt (text turn) (at turn) (end turn)) _ _ _ _ (sym (turn .read-line .ensures) ∙ c .before .before .before .before .entry3 .given .1) in
-    omega (arith, line .after, line .within, sized turn .clusters, sized turn .clusterRoom)
+element-set-from-cluster c = omega (arith, cluster-room (c .before .before .before .before))
 
 loop-less-2 : tie.Need-loop-less-2 Inv-loop2 μ-loop2 Inv-loop μ-loop
-loop-less-2 c =
-    let turn = c .before .before .before .before .before .before in
-    omega (arith, inside turn, ended turn, running turn)
+loop-less-2 c = onward (c .before .before .before .before .before .before)
 
 loop-again-2 : tie.Need-loop-again-2 Inv-loop2 μ-loop2 Inv-loop μ-loop
 unfolding withCluster
 loop-again-2 c =
     let turn = c .before .before .before .before .before .before in
-    let line = cluster-is (number turn) (records turn .«cluster_count») (records turn .«flow_count») (records turn .clusters) (rowAt (text turn) (at turn) (end turn)) _ _ _ _ (sym (turn .read-line .ensures) ∙ c .before .before .before .before .entry3 .given .1) in
+    let line = cluster-line turn (c .before .before .before .before .entry3 .given .1) in
     let tag = c .before .before .tag-at in
     let all : c .before .loop2 .j ≡ number turn - 2 = omega arith in
     let fresh = tag-not-taken _ _ _ (rw all at (c .before .loop2 .inv .1)) in
-    (sym (left-cluster (text turn) (at turn) (number turn) (records turn) (end turn) (running turn) (ended turn) _ _ _ _ line (tag .result) (tag .ensures) fresh) ∙ so-far turn, sized-cluster (records turn) (sized turn) _ _, omega (arith, few turn, ended turn), omega (arith, inside turn))
+    let left = left-cluster (text turn) (at turn) (number turn) (records turn) (end turn) (running turn) (ended turn) _ _ _ _ line (tag .result) (tag .ensures) fresh in
+    (sym left ∙ so-far turn, sized-cluster (records turn) (sized turn) _ _, omega (arith, few turn, ended turn), omega (arith, inside turn))
 
 enum-known-entry-4 : tie.Need-enum-known-entry-4 Inv-loop2 μ-loop2 Inv-loop μ-loop
 enum-known-entry-4 c = search needs
 
 sub-j : tie.Need-sub-j Inv-loop2 μ-loop2 Inv-loop μ-loop
-sub-j c =
-    let turn = c .before .before .before in
-    let line = flow-is (number turn) (records turn .«cluster_count») (records turn .«flow_count») (records turn .clusters) (rowAt (text turn) (at turn) (end turn)) _ _ _ _ (sym (turn .read-line .ensures) ∙ c .before .entry4 .given .1) in
-    omega (arith, line .after)
+sub-j c = omega (arith, flow-room (c .before))
 
 wide-requires : tie.Need-wide-requires Inv-loop2 μ-loop2 Inv-loop μ-loop
 wide-requires c κs = search needs
 
 sub-j-2 : tie.Need-sub-j-2 Inv-loop2 μ-loop2 Inv-loop μ-loop
-sub-j-2 c =
-    let turn = c .before .before .before .before in
-    let line = flow-is (number turn) (records turn .«cluster_count») (records turn .«flow_count») (records turn .clusters) (rowAt (text turn) (at turn) (end turn)) _ _ _ _ (sym (turn .read-line .ensures) ∙ c .before .before .entry4 .given .1) in
-    omega (arith, line .after, c .wide .ensures .0)
+sub-j-2 c = omega (arith, c .wide .ensures .0, flow-room (c .before .before))
 
 mul-flow : tie.Need-mul-flow Inv-loop2 μ-loop2 Inv-loop μ-loop
-mul-flow c =
-    let turn = c .before .before .before .before in
-    let line = flow-is (number turn) (records turn .«cluster_count») (records turn .«flow_count») (records turn .clusters) (rowAt (text turn) (at turn) (end turn)) _ _ _ _ (sym (turn .read-line .ensures) ∙ c .before .before .entry4 .given .1) in
-    omega (arith, line .after, line .within, c .wide .ensures .0, sized turn .flows, sized turn .flowRoom)
+mul-flow c = omega (arith, c .wide .ensures .0, flow-room (c .before .before))
 
 element-set-from-flow : tie.Need-element-set-from-flow Inv-loop2 μ-loop2 Inv-loop μ-loop
-element-set-from-flow c =
-    let turn = c .before .before .before .before in
-    let line = flow-is (number turn) (records turn .«cluster_count») (records turn .«flow_count») (records turn .clusters) (rowAt (text turn) (at turn) (end turn)) _ _ _ _ (sym (turn .read-line .ensures) ∙ c .before .before .entry4 .given .1) in
-    omega (arith, line .after, line .within, c .wide .ensures .0, sized turn .flows, sized turn .flowRoom)
+element-set-from-flow c = omega (arith, c .wide .ensures .0, flow-room (c .before .before))
 
 loop-less-3 : tie.Need-loop-less-3 Inv-loop2 μ-loop2 Inv-loop μ-loop
-loop-less-3 c =
-    let turn = c .before .before .before .before in
-    omega (arith, inside turn, ended turn, running turn)
+loop-less-3 c = onward (c .before .before .before .before)
 
 loop-again-3 : tie.Need-loop-again-3 Inv-loop2 μ-loop2 Inv-loop μ-loop
 unfolding withFlow
 loop-again-3 c =
     let turn = c .before .before .before .before in
-    let line = flow-is (number turn) (records turn .«cluster_count») (records turn .«flow_count») (records turn .clusters) (rowAt (text turn) (at turn) (end turn)) _ _ _ _ (sym (turn .read-line .ensures) ∙ c .before .before .entry4 .given .1) in
-    (rw (c .wide .ensures .0) (sym (left-flow (text turn) (at turn) (number turn) (records turn) (end turn) (running turn) (ended turn) _ _ _ _ line) ∙ so-far turn), sized-flow (records turn) (sized turn) _ _, omega (arith, few turn, ended turn), omega (arith, inside turn))
+    let line = flow-line turn (c .before .before .entry4 .given .1) in
+    let left = left-flow (text turn) (at turn) (number turn) (records turn) (end turn) (running turn) (ended turn) _ _ _ _ line in
+    (rw (c .wide .ensures .0) (sym left ∙ so-far turn), sized-flow (records turn) (sized turn) _ _, omega (arith, few turn, ended turn), omega (arith, inside turn))
 
 due-at-requires : tie.Need-due-at-requires Inv-loop2 μ-loop2 Inv-loop μ-loop
 due-at-requires c κs = search needs
@@ -255,13 +273,21 @@ accepted-requires : tie.Need-accepted-requires Inv-loop2 μ-loop2 Inv-loop μ-lo
 accepted-requires c κs = search needs
 
 returns-3 : tie.Need-returns-3 Inv-loop2 μ-loop2 Inv-loop μ-loop
-returns-3 c = c .accepted .ensures ∙ sym (left-none (c .before .before .before .before .before .before .before .args .text .now) (c .before .before .before .before .loop .at) (c .before .before .before .before .loop .k) (c .before .before .before .before .loop .site) (c .before .before .before .loop-test .left) (sym (c .before .before .due-at .ensures) ∙ c .before .if2 .taken)) ∙ c .before .before .before .before .loop .inv .0
+returns-3 c =
+    let due = c .before .before in let at-end = last due .loop in
+    c .accepted .ensures
+    ∙ sym (left-none (whole due) (at-end .at) (at-end .k) (at-end .site) (due .before .loop-test .left) (sym (due .due-at .ensures) ∙ c .before .if2 .taken))
+    ∙ at-end .inv .0
 
 refused-requires-3 : tie.Need-refused-requires-3 Inv-loop2 μ-loop2 Inv-loop μ-loop
 refused-requires-3 c κs = search needs
 
 returns-4 : tie.Need-returns-4 Inv-loop2 μ-loop2 Inv-loop μ-loop
-returns-4 c = c .refused3 .ensures ∙ sym (left-missing (c .before .before .before .before .before .before .before .args .text .now) (c .before .before .before .before .loop .at) (c .before .before .before .before .loop .k) (c .before .before .before .before .loop .site) (c .before .before .before .loop-test .left) (λ e. c .before .if2 .left (c .before .before .due-at .ensures ∙ e))) ∙ c .before .before .before .before .loop .inv .0
+returns-4 c =
+    let due = c .before .before in let at-end = last due .loop in
+    c .refused3 .ensures
+    ∙ sym (left-missing (whole due) (at-end .at) (at-end .k) (at-end .site) (due .before .loop-test .left) (λ e. c .before .if2 .left (due .due-at .ensures ∙ e)))
+    ∙ at-end .inv .0
 
 pub read-spec : {M : Type 1} → statement M
 read-spec =
