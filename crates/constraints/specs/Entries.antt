@@ -1,5 +1,5 @@
--- The constraints as a list of small structs, each with its from, its to and its limit. A limit may be below 0, so it stands behind a bias of 64: "N(to) - N(from) is at most
--- the limit" (document 01, "The plan that is returned") is N(to) + 64 ≤ N(from) + what stands in the entry.
+-- The constraints as a list of small structs, each with its from, its to and its limit (docs/FORMATS.md, "The plan that is returned"). A limit may be below 0, so it stands
+-- behind a bias of 64: that N(to) - N(from) is at most the limit is N(to) + 64 ≤ N(from) + what stands in the entry.
 use mathlib.Core.List.{List, [], _∷_, _++_}
 use Prim.Native.Nat.{ℕ, zero, suc, _+_, _-_, _≤_, _<_}
 use lib.ListN.{length}

@@ -1,4 +1,5 @@
-// The constraints on N as a lent list, and their relaxing (document 01, "The plan that is returned").
+// The constraints on N as a lent list, and their relaxing (docs/FORMATS.md,
+// "The plan that is returned").
 ghost use mathlib.Core.Path.{_≡_};
 ghost use mathlib.Core.List.{_++_, map};
 ghost use Prim.Native.Nat.{_+_, _-_, _*_, _/_, _≤_, _<_};

@@ -1,5 +1,5 @@
--- Document 01, "What the contracts have to nail": two results that one contract allows are equal, for each public function. A contract says
--- "the result is d", or "the result is d and the room is e", with d and e made of the arguments alone, so each line here is an instance of one of two laws.
+-- Two results that one contract allows are equal (docs/PROMISES.md, "Theorems"), for each public function. A contract says that
+-- the result is d, or that the result is d and the room is e, with d and e made of the arguments alone, so each line here is an instance of one of two laws.
 -- A part of a text that is shown is a place in memory and its bytes; these are equal, and nothing else of it can be looked at. The functions that fill number slices of
 -- the planner's own and leave some of it open (constraints::settle, search::search) are the exceptions that docs/PROMISES.md explains.
 use mathlib.Core.Path.{_≡_}

@@ -1,5 +1,5 @@
--- Document 01, "What the contracts have to nail": the impostors, each as a way to behave and a proof that no function that behaves so meets the planner's
--- contract. Each proof computes the contract at records of a case of document 01, in a room of so many bytes.
+-- The impostors (docs/PROMISES.md, "Impostors"), each as a way to behave and a proof that no function that behaves so meets the planner's contract.
+-- Each proof computes the contract at records of a case of docs/FORMATS.md, "Worked sites", in a room of so many bytes.
 use mathlib.Core.Path.{_≡_, refl, sym, ap, _∙_}
 use mathlib.Core.List.{List, [], _∷_, _++_, map}
 use Prim.Native.Nat.{ℕ, _-_, _≤_, _<_, min}
@@ -42,7 +42,7 @@ Planner = Site → List ℕ → Planned × List ℕ
 abbrev pub Contract : Planner → Type 0
 Contract f = (s : Site) (room : List ℕ) → f s room ≡ (answer s (length room), roomAfter s room)
 
--- ---- records of document 01's cases
+-- ---- records of the worked sites
 
 abbrev tagged : List ℕ → Tag
 tagged bytes = record { bytes = bytes ++ replicate (64 - length bytes) 0; len = length bytes }
@@ -92,7 +92,7 @@ P7 = records pair (flow 0 1 1920 1920 ∷ [])
 P8 : Site
 P8 = records pair (flow 0 1 1919 1920 ∷ [])
 
--- "tags equal in 16 bytes, different in the 17th"
+-- tags that agree in 16 bytes and differ in the 17th
 twins : Site
 twins = records (cluster 255 (replicate 16 65 ++ (65 ∷ [])) ∷ cluster 0 (replicate 16 65 ++ (66 ∷ [])) ∷ []) []
 
@@ -172,21 +172,21 @@ module _ (f : Planner) (meets : Contract f) where
   leaves : (s : Site) (room : List ℕ) → f s room .1 ≡ roomAfter s room
   leaves s room = ap (λ r. r .1) (meets s room)
 
-  -- "a planner refusing all sites": P1 is planned
+  -- one that refuses all sites: P1 is planned
   pub not-all-refused : ((s : Site) (room : List ℕ) → (number line : ℕ) × (f s room .0 ≡ Refused number line)) → ⊥
   not-all-refused impostor =
       let e = impostor P1 (replicate 59 1) .2 in
       let h = answers P1 (replicate 59 1) (Plan 34 14) (worked .P1-planned) in
       let z : _≡_ {A = ℕ} 0 1 = cc in omega arith
 
-  -- "one fixed plan [..] for all": P3 and P5 have texts of one length and one order, which begin with different clusters
+  -- one with a fixed plan for all: P3 and P5 have texts of one length and one order, which begin with different clusters
   pub no-fixed-plan : ((s other : Site) (room : List ℕ) (len order : ℕ) → f s room .0 ≡ Plan len order → f other room .0 ≡ Plan len order → f s room .1 ≡ f other room .1) → ⊥
   no-fixed-plan impostor =
       let room : List ℕ = replicate 84 0 in
       let fixed = impostor P3 P5 room 84 2 (answers P3 room (Plan 84 2) (worked .P3-planned)) (answers P5 room (Plan 84 2) (worked .P5-planned)) in
       omega (arith, ap (λ r. getD r 12 0) (sym (leaves P3 room) ∙ fixed ∙ leaves P5 room), worked .P3-begins, worked .P5-begins)
 
-  -- "child-first order for all": in P7 the root starts first
+  -- one that always puts the child first: in P7 the root starts first
   pub not-child-first-always : ((s : Site) (room : List ℕ) (len order : ℕ) → f s room .0 ≡ Plan len order
       → let start : ℕ → ℕ = startsIn (take len (f s room .1)) in (c : ℕ) → 0 < c → c < s .«cluster_count» → start c < start (getD (s .clusters) c absent .parent))
       → ⊥
@@ -196,14 +196,14 @@ module _ (f : Planner) (meets : Contract f) where
       let first = impostor P7 room 59 1 (answers P7 room (Plan 59 1) (worked .P7-planned)) 1 (omega arith) (omega arith) in
       omega (arith, rw leaves at first, worked .P7-starts .0, worked .P7-starts .1)
 
-  -- "one that returns a length and writes nothing": P1's text begins with the digit 8
+  -- one that returns a length and leaves the room as it was: P1's text begins with the digit 8
   pub room-is-written : ((s : Site) (room : List ℕ) → f s room .1 ≡ room) → ⊥
   room-is-written impostor =
       let room : List ℕ = replicate 59 1 in
       let same : roomAfter P1 room ≡ room = sym (leaves P1 room) ∙ impostor P1 room in
       omega (arith, ap (λ r. getD r 0 0) same, worked .P1-begins)
 
-  -- "one that honours the first flow and skips the others": P4 has a placing for the first of its flows, and none for both
+  -- one that looks at the first flow only: P4 has a placing for the first of its flows, and none for both
   pub every-flow-counts : ((s : Site) (room : List ℕ) → f s room .0 ≡ answer (firstFlow s) (length room)) → ⊥
   every-flow-counts impostor =
       let room : List ℕ = replicate 84 0 in
@@ -211,7 +211,7 @@ module _ (f : Planner) (meets : Contract f) where
       let h = answers P4 room (Refused 8 0) (worked .P4-late) in
       let z : _≡_ {A = ℕ} 0 1 = cc in omega arith
 
-  -- "one inventing the length": P1 and P7 have texts of 34 and 59 bytes in rooms of one length
+  -- one that makes the length up: P1 and P7 have texts of 34 and 59 bytes in rooms of one length
   pub length-not-invented : (invented : ℕ → ℕ) → ((s : Site) (room : List ℕ) (len order : ℕ) → f s room .0 ≡ Plan len order → len ≡ invented (length room)) → ⊥
   length-not-invented invented impostor =
       let room : List ℕ = replicate 59 1 in
@@ -219,7 +219,7 @@ module _ (f : Planner) (meets : Contract f) where
       let h = impostor P7 room 59 1 (answers P7 room (Plan 59 1) (worked .P7-planned)) in
       omega arith
 
-  -- "or line": no cluster is refused by 4 at line 1, and an order of 15 by 4 at line 2
+  -- one that makes the line up: no cluster is refused by 4 at line 1, and an order of 15 by 4 at line 2
   pub line-not-invented : (invented : ℕ → ℕ) → ((s : Site) (room : List ℕ) (number line : ℕ) → f s room .0 ≡ Refused number line → line ≡ invented number) → ⊥
   line-not-invented invented impostor =
       let e = impostor noSite [] 4 1 (answers noSite [] (Refused 4 1) (worked .none-refused)) in

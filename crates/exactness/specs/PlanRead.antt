@@ -1,4 +1,4 @@
--- A plan text read as a stranger would (document 01, "The plan that is returned"): the header line has the order in byte 2, and a cluster's line has 82, its
+-- A plan text read as a stranger would (docs/FORMATS.md, "Plan text"): the header line has the order in byte 2, and a cluster's line has 82, its
 -- number, and its start in the 4 bytes behind.
 use mathlib.Core.Bool.{Bool, cond, _&&_}
 use mathlib.Core.List.{List, [], _∷_}

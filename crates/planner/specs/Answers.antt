@@ -1,4 +1,4 @@
--- What the planner answers to records and leaves in the lent room (document 01, "The plan that is returned" and "Refusal numbers"): 4, 5 and 6 as the site
+-- What the planner answers to records and leaves in the lent room (docs/FORMATS.md, "Refusal numbers" and "Plan text"): 4, 5 and 6 as the site
 -- writer gives them, then 7, 8 and 9 with line 0, else the plan text.
 use mathlib.Core.Bool.{cond}
 use mathlib.Core.List.{List, [], _∷_}

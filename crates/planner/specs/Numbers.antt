@@ -1,4 +1,4 @@
--- What the figures are taken from that the planner works out once, before it searches (document 01, "The plan that is returned").
+-- What the figures are taken from that the planner works out once, before it searches (docs/FORMATS.md, "The plan that is returned").
 use mathlib.Core.Path.{_≡_}
 use mathlib.Core.List.{List, map}
 use Prim.Native.Nat.{ℕ, _-_, _≤_, _<_}
@@ -27,7 +27,7 @@ flowsOf flows n = record {
 unfoldable pub periodsOf : List Flow → ℕ → List ℕ
 periodsOf flows n = map (λ (f : Flow). f .period) (take n flows)
 
--- "depth of sink - depth of z", z the top of the path of flow i
+-- how far the path of flow i goes down: the depth of its sink less that of its top
 unfoldable pub descentAt : List ℕ → List ℕ → List ℕ → ℕ → ℕ
 descentAt parents sources sinks i = depth (at parents) (at sinks i) - depth (at parents) (top (at parents) (at sources i) (at sinks i))
 

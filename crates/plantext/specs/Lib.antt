@@ -1,2 +1,4 @@
+-- the site that records describe, and the plan text
 pub mod PlanText
+-- laws of them, which the code uses
 pub mod PlanTextLaws

@@ -1,4 +1,4 @@
--- The plan text of a site's records (document 01, "The plan that is returned").
+-- The plan text of a site's records (docs/FORMATS.md, "Plan text").
 use mathlib.Core.Path.{_≡_}
 use mathlib.Core.Bool.{false}
 use mathlib.Core.List.{List, [], _∷_, _++_, map}
@@ -30,11 +30,11 @@ siteOf s = record {
   flows = map modelFlow (take (s .«flow_count») (s .flows));
 }
 
--- "a header line of 81, 01, BO, number of clusters"
+-- the header: 81, version 01, beacon order, number of clusters
 unfoldable pub planHeader : ℕ → ℕ → List ℕ
 planHeader order n = fieldBytes (1 ∷ 1 ∷ 1 ∷ 1 ∷ []) (129 ∷ 1 ∷ order ∷ n ∷ [])
 
--- "82, cluster number, start (4 bytes), length (4 bytes), L, tag"
+-- the line of a cluster: 82, number, start in 4 bytes, length in 4 bytes, tag length, tag
 unfoldable pub clusterLine : ℕ → ℕ → ℕ → Tag → List ℕ
 clusterLine c start len tag = fieldBytes (1 ∷ 1 ∷ 4 ∷ 4 ∷ 1 ∷ []) (130 ∷ c ∷ start ∷ len ∷ tag .len ∷ []) ++ take (tag .len) (tag .bytes)
 
@@ -44,7 +44,7 @@ planLine s sequence c =
     let cluster : Cluster = getD (s .clusters) c absent in
     clusterLine c (starts (siteOf s) sequence c) (portion (cluster .order)) (cluster .tag)
 
--- "then a line for each cluster in order of start"
+-- a line for each cluster, in order of start
 unfoldable pub planLines : Site → List ℕ → List ℕ
 planLines s sequence = linesOf (planLine s sequence) sequence
 

@@ -118,7 +118,7 @@ lines-bounded bytes most (y ∷ ys) h =
     let both = suc-mul (length ys) most in
     omega (arith, first, rest, both, length-append (lineOf (bytes y)) (linesOf bytes ys))
 
--- "At most 9,673 bytes"
+-- a plan text has at most 9,673 bytes
 pub text-bounded : (s : Site) (order : ℕ) (xs : List ℕ) → Placed s xs → length (planText s order xs) ≤ 9673
 unfolding planLines
 text-bounded s order xs p =

@@ -1,5 +1,5 @@
-// The plan text (document 01, "The plan that is returned"): its length, and its lines into a room
-// that the caller lends.
+// The plan text (docs/FORMATS.md, "Plan text"): its length, and its lines into a room that the
+// caller lends.
 use model::Order;
 use model::wide;
 use site::Site;

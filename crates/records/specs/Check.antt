@@ -1,4 +1,4 @@
--- The check of records (document 01, "Refusal numbers"): 4, 5 and 6 "with the line that the record would have". The first bad line decides, and in it
+-- The check of records (docs/FORMATS.md, "Refusal numbers", on records handed in): 4, 5 and 6 with the line that each would have. The first bad line decides, and in it
 -- the lowest number: the header has line 1, cluster i line 2 + i, and flow j line 2 + clusters + j.
 use mathlib.Core.Bool.{cond}
 use mathlib.Core.List.{List, [], _∷_}

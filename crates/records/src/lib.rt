@@ -1,5 +1,5 @@
-// The check of records that a caller hands in (document 01, "Refusal numbers": the writer's and the
-// planner's 4, 5 and 6).
+// The check of records that a caller hands in (docs/FORMATS.md, "Refusal numbers": the writer's and
+// the planner's 4, 5 and 6).
 use model::Order;
 use model::wide;
 use site::Cluster;

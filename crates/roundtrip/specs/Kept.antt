@@ -1,5 +1,5 @@
--- What is kept of records (document 01, "Site text"): "the same records up to their counts and tag lengths", and "bytes past the length are zero after
--- reading, as are entries past the counts". The tests of records look at nothing else, so they say the same of what is kept.
+-- What is kept of records (docs/FORMATS.md, "Site text"): the records up to the counts and the tag lengths, and zeros behind.
+-- The tests of records look at nothing else, so they say the same of what is kept.
 use mathlib.Core.Path.{_≡_, ap, ap₂, _∙_}
 use mathlib.Core.Bool.{not}
 use mathlib.Core.Logic.{inl, inr}

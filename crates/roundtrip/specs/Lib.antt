@@ -1,7 +1,6 @@
-pub mod Due
+-- what is kept of records
 pub mod Kept
-pub mod LinesBack
-pub mod LinesAgain
+-- the theorems
 pub mod ReadOfWrite
 pub mod WriteOfRead
 pub mod AcceptedExactly
@@ -10,3 +9,7 @@ pub mod LongestSite
 pub mod FirstBytes
 pub mod Tags
 pub mod EqualResults
+-- laws that they use
+pub mod Due
+pub mod LinesBack
+pub mod LinesAgain

@@ -1,4 +1,4 @@
--- Document 01, "Site text": "The longest line has 136 digits, the longest site 11,721 bytes." A header takes 9 bytes with its LF, a cluster at most 137 and a
+-- The longest site has 11,721 bytes (docs/FORMATS.md, "Site text"). A header takes 9 bytes with its LF, a cluster at most 137 and a
 -- flow 23, so 64 clusters and 128 flows take at most 9 + 64 x 137 + 128 x 23.
 use mathlib.Core.Path.{_≡_, ap}
 use mathlib.Core.List.{List, [], _∷_, _++_}

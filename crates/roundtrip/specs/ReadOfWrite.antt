@@ -1,4 +1,4 @@
--- Document 01, "Site text": "Writing records that are accepted and reading them gives the same records up to their counts and tag lengths."
+-- Records that the check accepts, written and read, give the same records up to the counts and the tag lengths (docs/FORMATS.md, "Site text").
 -- The reader takes the header's line, then the line of each cluster, then that of each flow: after i clusters and j flows it holds those records, kept up to
 -- their tag lengths. No line is refused, since the reader and the check share the tests of records.
 use mathlib.Core.Path.{_≡_, refl, _∙_}

@@ -1,5 +1,5 @@
--- Document 01, "Site text": "Two tags are the same exactly if their lengths agree and all bytes up to that length." So any byte up to the length tells two tags
--- apart; "tags equal in 16 bytes, different in the 17th: two clusters" ("Worked sites") is worked through for two tags of the pump hall.
+-- Two tags are the same exactly if their lengths are equal and so is every byte up to that length (docs/FORMATS.md, "Site text"). So any byte up to the length tells
+-- two tags apart; two tags of the pump hall that agree in 16 bytes and differ in the 17th are worked through.
 use mathlib.Core.Path.{_≡_, refl}
 use mathlib.Core.Bool.{Bool, true, false, _&&_, and-false}
 use mathlib.Core.List.{List, [], _∷_, _++_}

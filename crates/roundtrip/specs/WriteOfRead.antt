@@ -1,4 +1,4 @@
--- Document 01, "Site text": "Reading a text that is accepted and writing it gives the same bytes." And the records that were read are accepted by the check.
+-- An accepted text, read and written, gives the same bytes (docs/FORMATS.md, "Site text"). And the records that were read are accepted by the check.
 -- After i clusters and j flows the records so far are sound, and their text with the rows that are left is the whole text. Each line that is taken keeps
 -- that: it is stored behind the records before it, and its bytes are those of its record. At the end no row is left.
 use mathlib.Core.Path.{_≡_, refl, sym, ap, _∙_, subst}

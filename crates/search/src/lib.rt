@@ -1,5 +1,5 @@
-// The search for the order (document 01, "The plan that is returned"): the largest permitted one at
-// which the portions fit and the constraints have a solution.
+// The search for the order (docs/FORMATS.md, "The plan that is returned"): the largest permitted
+// one at which the portions fit and the constraints have a solution.
 use constraints::Settling;
 use model::Order;
 ghost use mathlib.Core.Path.{_≡_};

@@ -1,5 +1,5 @@
--- What the contracts cite (document 01, "The plan that is returned"). A number for each cluster says how much holds it back, and "the lowest-numbered cluster all of whose required
--- predecessors are placed" is the first that nothing holds back.
+-- What the contracts cite (docs/FORMATS.md, "The plan that is returned"). A number for each cluster says how much holds it back, and the cluster that comes next, the lowest
+-- number with all required predecessors placed, is the first that nothing holds back.
 use mathlib.Core.Path.{_≡_}
 use mathlib.Core.Bool.{Bool, true, false, not, _&&_}
 use mathlib.Core.List.{List, []}

@@ -1,5 +1,7 @@
-pub mod AtFirst
+-- what holds a cluster back, and the sequence
 pub mod Holding
+-- laws of it, which the code uses
+pub mod AtFirst
 pub mod HoldingLaws
 pub mod Running
 pub mod WaitingLaws

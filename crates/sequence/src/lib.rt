@@ -1,4 +1,4 @@
-// The clusters in order of start (document 01, "The plan that is returned"): each time the
+// The clusters in order of start (docs/FORMATS.md, "The plan that is returned"): each time the
 // lowest-numbered cluster all of whose required predecessors are placed comes next. How much holds
 // each cluster back is counted once, in a pass over the clusters and their parents, and lowered as
 // clusters are placed, so that n clusters take about 2 * n * n steps.

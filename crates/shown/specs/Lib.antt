@@ -1,2 +1,4 @@
+-- the part shown for a line
 pub mod Shown
+-- laws of it
 pub mod ShownLaws

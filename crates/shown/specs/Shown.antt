@@ -1,4 +1,4 @@
--- The part of a text that is shown for a line (document 01, "Refusal numbers", last paragraph): where it begins, and its bytes. Lines count from 1, and a
+-- The part of a text that is shown for a line (docs/FORMATS.md, "Refusal numbers", its last part): where it begins, and its bytes. Lines count from 1, and a
 -- last line that no LF ends is a line too. Where there is no line k, the part is empty and stands at the text's end.
 use mathlib.Core.Path.{_≡_}
 use mathlib.Core.Bool.{cond}

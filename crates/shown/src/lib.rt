@@ -1,4 +1,4 @@
-// The part of a text that is shown for a line (document 01, "Refusal numbers").
+// The part of a text that is shown for a line (docs/FORMATS.md, "Refusal numbers").
 ghost use mathlib.Core.Path.{_≡_};
 ghost use Rattle.shown.specs.Shown.{lineStart, Shown};
 

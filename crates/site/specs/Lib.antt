@@ -1,10 +1,14 @@
+-- the records, the table of refusals, the reader, and what the answers say
 pub mod Records
-pub mod TagLaws
 pub mod Lines
-pub mod LinesLaws
 pub mod Table
-pub mod TableLaws
 pub mod Reading
 pub mod Answers
+-- a theorem: what the line reader's answer says
+pub mod LineAnswers
+-- laws of them, which the code and the theorems use
+pub mod TagLaws
+pub mod LinesLaws
+pub mod TableLaws
 pub mod ReadLaws
 pub mod LeftLaws

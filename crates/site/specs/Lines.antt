@@ -1,4 +1,4 @@
--- The record that a line of digits spells (document 01, the table under "Site text").
+-- The record that a line of digits spells (docs/FORMATS.md, "Site text").
 use mathlib.Core.Bool.{Bool}
 use mathlib.Core.List.{List}
 use Prim.Native.Nat.{ℕ, _+_, _/_}

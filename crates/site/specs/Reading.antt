@@ -1,4 +1,4 @@
--- The reader of a text (document 01, "Refusal numbers"): "The first bad line decides, and in it the lowest number." The records are all zero after a refusal.
+-- The reader of a text (docs/FORMATS.md, "Refusal numbers"): the first line that is refused decides, by the lowest number. The records are all zero after a refusal.
 use mathlib.Core.Bool.{cond}
 use mathlib.Core.List.{List, [], _∷_}
 use Prim.Native.Nat.{ℕ, _+_, _-_}
@@ -28,7 +28,7 @@ withFlow s j f = record { clusters = s .clusters; flows = set (s .flows) j f; «
 abbrev pub refusalAt : ℕ → Site → Row → ℕ
 refusalAt k s r = refusal k (s .«cluster_count») (s .«flow_count») (s .clusters) r
 
--- the records with that of line k: "Clusters are numbered from 0 in their order, and flows likewise"
+-- the records with that of line k: clusters are numbered from 0 in the order of their lines, and flows too
 unfoldable pub entered : ℕ → Site → List ℕ → Site
 entered k s l =
     byKind (due k (s .«cluster_count») (s .«flow_count»))

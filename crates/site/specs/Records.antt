@@ -1,4 +1,4 @@
--- The records of a site and the tests that a text's and a caller's records share (document 01, "Site text", "Refusal numbers" 4, 5 and 6).
+-- The records of a site and the tests that a text's and a caller's records share (docs/FORMATS.md, "Site text", "Refusal numbers" 4, 5 and 6).
 use mathlib.Core.Bool.{Bool, cond, not, _&&_}
 use mathlib.Core.List.{List, [], _∷_}
 use Prim.Native.Nat.{ℕ}
@@ -13,7 +13,7 @@ use Rattle.site.specs.declared.Cluster.{Cluster}
 use Rattle.site.specs.declared.Flow.{Flow}
 use Rattle.site.specs.declared.Site.{Site}
 
--- all zero: "bytes past the length are zero after reading, as are entries past the counts"
+-- all zero, as tag bytes behind the length and places behind the counts are after reading
 abbrev pub noTag : Tag
 noTag = record { bytes = replicate 64 0; len = 0 }
 
@@ -30,11 +30,11 @@ noSite = record { clusters = replicate 64 noCluster; flows = replicate 128 noFlo
 abbrev pub absent : Cluster
 absent = record { parent = 0; order = 0; tag = record { bytes = []; len = 0 } }
 
--- "Two tags are the same exactly if their lengths agree and all bytes up to that length"
+-- two tags are the same exactly if their lengths are equal and so is every byte up to that length
 unfoldable pub sameTag : Tag → Tag → Bool
 sameTag a b = eqb (a .len) (b .len) && every (a .len) (λ i. eqb (getD (a .bytes) i 0) (getD (b .bytes) i 0))
 
--- tag bytes are "each 21 to 7E hex"
+-- each byte of a tag is 21 to 7E in hexadecimal
 unfoldable pub printableTag : Tag → Bool
 printableTag t = every (t .len) (λ i. between 33 126 (getD (t .bytes) i 0))
 
@@ -50,7 +50,7 @@ clusterOutside c = anyOf (ltb largest (c .order) ∷ not (between 1 64 (c .tag .
 unfoldable pub flowOutside : ℕ → Flow → Bool
 flowOutside n f = anyOf (leb n (f .source) ∷ leb n (f .sink) ∷ not (between 1 1000000000 (f .period)) ∷ not (between 1 1000000000 (f .deadline)) ∷ [])
 
--- 5: "the root's parent isn't FF, or another's parent isn't a lower number"
+-- 5: the root's parent is not FF, or another cluster's parent is not lower than its own number
 unfoldable pub wrongParent : ℕ → ℕ → Bool
 wrongParent i p = cond (eqb i 0) (not (eqb p 255)) (leb i p)
 

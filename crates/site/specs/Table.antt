@@ -1,4 +1,4 @@
--- Document 01, "Refusal numbers": for each number a test of a line in its context. Line k is counted from 1, and n and f are the header's counts.
+-- docs/FORMATS.md, "Refusal numbers": for each number a test of a line in its context. Line k is counted from 1, and n and f are the header's counts.
 use mathlib.Core.Bool.{Bool, false, cond, not}
 use mathlib.Core.List.{List, [], _∷_, _++_}
 use Prim.Native.Nat.{ℕ, suc, _+_, _-_}
@@ -24,15 +24,15 @@ due k n f = cond (leb k 1) 1 (cond (leb k (1 + n)) 2 (cond (leb k (1 + n + f)) 3
 abbrev pub byKind {ℓ} : {A : Type ℓ} → ℕ → A → A → A → A
 byKind d header cluster flow = cond (eqb d 1) header (cond (eqb d 2) cluster flow)
 
--- 2: "the first byte isn't the kind due here", or no line is due
+-- 2: the first byte is not the kind that is due, or no line is due
 unfoldable pub wrongKind : ℕ → List ℕ → Bool
 wrongKind d l = anyOf (eqb d 0 ∷ not (eqb (byteAt l 0) d) ∷ [])
 
--- 3: "the record's length isn't that of its kind"
+-- 3: the record is not as long as its kind
 unfoldable pub wrongLength : ℕ → List ℕ → Bool
 wrongLength d l = not (eqb (size l) (byKind d 4 (4 + byteAt l 3) 11))
 
--- 4: "a field is outside its range, or a flow names a cluster that isn't there"
+-- 4: a field is outside its range; a flow's source and sink have to be clusters of the site
 unfoldable pub outside : ℕ → ℕ → List ℕ → Bool
 outside d n l = byKind d (headerOutside (byteAt l 1) (byteAt l 2) (byteAt l 3)) (clusterOutside (clusterOf l)) (flowOutside n (flowOf l))
 
@@ -40,7 +40,7 @@ outside d n l = byKind d (headerOutside (byteAt l 1) (byteAt l 2) (byteAt l 3)) 
 unfoldable pub misplaced : ℕ → ℕ → List ℕ → Bool
 misplaced d k l = byKind d false (wrongParent (k - 2) (clusterOf l .parent)) false
 
--- 6: "an earlier cluster has the same tag"
+-- 6: an earlier cluster has the same tag
 unfoldable pub repeated : ℕ → ℕ → List Cluster → List ℕ → Bool
 repeated d k cs l = byKind d false (tagTaken cs (k - 2) (clusterOf l .tag)) false
 

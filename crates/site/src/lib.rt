@@ -1,4 +1,4 @@
-// Sites (document 01, "Site text", "Refusal numbers"): the records, the line reader and the
+// Sites (docs/FORMATS.md, "Site text", "Refusal numbers"): the records, the line reader and the
 // reader of a whole text.
 mod line;
 mod reader;
@@ -10,7 +10,7 @@ pub use reader::read;
 pub use tags::counted;
 pub use tags::same_tag;
 
-// The limits of document 01.
+// The limits of docs/FORMATS.md.
 pub const MOST_CLUSTERS: u8 = 64;
 
 pub const MOST_FLOWS: u8 = 128;

@@ -1,5 +1,5 @@
-// The tree of clusters as a slice of parents: depths, and the top of a path (document 01, "Allowed
-// and actual crossings").
+// The tree of clusters as a slice of parents: depths, and the top of a path (docs/FORMATS.md,
+// "Allowed and actual crossings").
 ghost use mathlib.Core.Path.{_≡_};
 ghost use Prim.Native.Nat.{_≤_, _<_};
 ghost use lib.ListN.{length};
