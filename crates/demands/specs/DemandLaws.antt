@@ -7,10 +7,11 @@ use native.Mathlib.Omega.{arith}
 use lib.Dec.{eqb}
 use lib.ListN.{length, getD, take, drop, length-drop, drop-of-length-le}
 use lib.Seq.{length-take-le}
+use denote.Ref.{RefT, now}
 use Rattle.hexline.specs.Lines.{Row, rows, lineLength}
 use Rattle.hexline.specs.LineLaws.{line-within}
 use Rattle.hexline.specs.Loops.{decide}
-use Rattle.shown.specs.Shown.{lineStart, lineAt}
+use Rattle.shown.specs.Shown.{lineStart, lineAt, Shown}
 use Rattle.shown.specs.ShownLaws.{start-fits, line-is-row, line-there, line-missing}
 use Rattle.site.specs.declared.Reading.{Reading}
 use Rattle.site.specs.declared.Site.{Site}
@@ -21,7 +22,7 @@ use Rattle.site.specs.Reading.{refusalAt, entered, accepted, readRows, readText
 use Rattle.site.specs.Table.{due}
 use Rattle.roundtrip.specs.AcceptedExactly.{accepted-exactly}
 use Rattle.roundtrip.specs.WriteOfRead.{write-of-read}
-use Rattle.demands.specs.Demands.{Surveyed, noRow}
+use Rattle.demands.specs.Demands.{Surveyed, noRow, LineShown}
 
 -- ---- the reader
 
@@ -65,7 +66,7 @@ module _ (t : List ℕ) (k : ℕ) where
   pub part-fits : lineStart t k + length (lineAt t k) ≤ length t
   part-fits = omega (arith, line-length, line-within rest, length-drop (lineStart t k) t, start-fits t k)
 
-  pub part-is-line : take (length (lineAt t k)) rest ≡ lineAt t k
+  part-is-line : take (length (lineAt t k)) rest ≡ lineAt t k
   unfolding lineAt
   part-is-line = ap (λ (n : ℕ). take n rest) line-length
 
@@ -77,7 +78,7 @@ module _ (t : List ℕ) (k : ℕ) where
   unfolding lineAt lineLength
   empty-at-end e = let none : rest ≡ [] = drop-of-length-le t {i = lineStart t k} (omega arith) in rw none
 
-  pub that-line : (n : ℕ) → k ≡ suc n → n < length (rows t) → (lineStart t k < length t) × (lineAt t k ≡ getD (rows t) n noRow .chars)
+  that-line : (n : ℕ) → k ≡ suc n → n < length (rows t) → (lineStart t k < length t) × (lineAt t k ≡ getD (rows t) n noRow .chars)
   that-line n e l = rw e (line-there t n l, line-is-row t n)
 
   no-line-zero : k ≡ 0 → lineStart t k ≡ length t
@@ -88,6 +89,16 @@ module _ (t : List ℕ) (k : ℕ) where
   past-last zero e l = absurd (omega arith)
   past-last (suc n) e l = rw e (line-missing t n (omega arith))
 
-  pub no-line : (k ≡ 0) ⊎ (length (rows t) < k) → (lineStart t k ≡ length t) × (lineAt t k ≡ [])
+  no-line : (k ≡ 0) ⊎ (length (rows t) < k) → (lineStart t k ≡ length t) × (lineAt t k ≡ [])
   no-line (inl e) = let start = no-line-zero e in (start, empty-at-end start)
   no-line (inr l) = let start = past-last k refl l in (start, empty-at-end start)
+
+-- a part at line k's place that holds its bytes is what is shown for it
+pub line-shown : (text part : RefT (List ℕ)) (k : ℕ) → Shown text part k → LineShown text part k
+line-shown text part k h = record {
+  start = lineStart (now text) k;
+  place = h .place;
+  inside = rw (h .bytes) (sym (part-is-line (now text) k));
+  that-line = λ n e l. let w = that-line (now text) k n e l in (w .0, h .bytes ∙ w .1);
+  no-line = λ e. let w = no-line (now text) k e in (w .0, h .bytes ∙ w .1);
+}

@@ -130,3 +130,10 @@ pub fn shown_part(text: &[u8], line: usize) -> &[u8]
     let length = commission::cartheron_line_length(text, line);
     &text[start..start + length]
 }
+
+// The part of a text shown for a line, by the library's own function.
+pub fn shown_line(text: &[u8], line: usize) -> &[u8]
+    ensures { λ r. ⌜ LineShown (text .entry) r line ⌝ }
+{
+    shown::line_at(text, line)
+}

@@ -58,7 +58,7 @@ fn run_clients(head: Head, text: &[u8])
 {
     let reading = clients::read_text(text);
     let line = print_reading(reading);
-    print_part(clients::shown_part(text, head.line));
+    print_part(clients::shown_line(text, head.line));
     print_part(clients::shown_part(text, line));
     rooms::run_commission(text, head.plan_room);
     rooms::run_survey(text, head.plan_room);

@@ -1,12 +1,12 @@
 -- `demands::clients::shown_part` meets its contract: the two numbers lead to a part of the text, which is line k by the laws of the part shown.
 -- A part `&s[a..e]` has the place of `s` with `a` added to its offset.
-use mathlib.Core.Path.{_≡_, sym, ap, _∙_}
+use mathlib.Core.Path.{_≡_, ap}
 use mathlib.Core.List.{List}
 use Prim.Native.Nat.{ℕ, _+_, _-_, _≤_}
 use native.Mathlib.Omega.{arith}
 use lib.ListN.{length, take, drop}
-use Rattle.shown.specs.Shown.{lineStart, lineAt}
-use Rattle.demands.specs.DemandLaws.{part-fits, part-is-line, part-between, that-line, no-line}
+use Rattle.shown.specs.Shown.{lineAt}
+use Rattle.demands.specs.DemandLaws.{part-fits, part-between, line-shown}
 use borrow.Author.Needs.{needs}
 use Rattle.demands.proofs.clients.shown_part.Statement.{statement}
 use Rattle.demands.proofs.clients.shown_part.Tie as tie
@@ -52,14 +52,10 @@ part-result-end c = ends-inside c
 returns : tie.Need-returns
 returns c =
     let called = c .before in
-    let line-is = is-line called in
-    record {
-      start = lineStart (text called) (line called);
+    line-shown _ _ _ (record {
       place = ap (λ (o : ℕ). (called .before .before .before .args .text .ptr .0, o)) (omega (arith, called .before .cartheron-line-start .ensures));
-      inside = rw line-is (sym (part-is-line (text called) (line called)));
-      that-line = λ n e l. let h = that-line (text called) (line called) n e l in (h .0, line-is ∙ h .1);
-      no-line = λ e. let h = no-line (text called) (line called) e in (h .0, line-is ∙ h .1);
-    }
+      bytes = is-line called;
+    })
 
 pub shown-part-spec : {M : Type 1} → statement M
 shown-part-spec =
