@@ -1,7 +1,9 @@
 -- What the C functions give back for any text, and the room after them (docs/FORMATS.md, "The program and the C functions"): the length written, or
 -- 65,536 times the refusal and the line.
+use mathlib.Core.Path.{_≡_}
 use mathlib.Core.List.{List, [], _∷_}
 use Prim.Native.Nat.{ℕ, _+_, _*_}
+use lib.ListN.{length}
 use Rattle.site.specs.declared.Site.{Site}
 use Rattle.site.specs.declared.Verdict.{Verdict}
 use Rattle.site.specs.declared.Verdict.the-variants.{Accepted, Refused}
@@ -10,6 +12,8 @@ use Rattle.site.specs.Reading.{readText}
 use Rattle.records.specs.Check.{checked}
 use Rattle.writer.specs.Text.{textOf, writtenSays, written, roomAfter as writtenRoom}
 use Rattle.planner.specs.Answers.{plannedSays, answer, roomAfter}
+use Rattle.commission.specs.declared.Errand.{Errand}
+use Rattle.commission.specs.declared.Errand.the-variants.{Plan, Rewrite}
 
 -- an answer as one number: the first value that it gives, which is a length, or the refusal
 abbrev pub numberOf : Answer → ℕ
@@ -37,3 +41,8 @@ rewriteNumber text room =
 
 unfoldable pub rewriteRoom : List ℕ → List ℕ → List ℕ
 rewriteRoom text room = let s : Site = readText text .site in roomBy (readText text .verdict) room (writtenRoom (checked s) (textOf s) room)
+
+-- a number, and a room before and after it, are what is given for an errand
+abbrev pub Done : Errand → List ℕ → List ℕ → ℕ → List ℕ → Type 0
+Done Plan text before number after = (number ≡ planNumber text (length before)) × (after ≡ planRoom text before)
+Done Rewrite text before number after = (number ≡ rewriteNumber text (length before)) × (after ≡ rewriteRoom text before)

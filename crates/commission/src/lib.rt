@@ -8,7 +8,7 @@ ghost use Prim.Native.Nat.{_≤_};
 ghost use lib.ListN.{length};
 ghost use Rattle.site.specs.Answers.{refuses};
 ghost use Rattle.shown.specs.Shown.{lineStart, lineAt};
-ghost use Rattle.commission.specs.Numbers.{numberOf, planNumber, planRoom, rewriteNumber, rewriteRoom};
+ghost use Rattle.commission.specs.Numbers.{numberOf, planNumber, planRoom, rewriteNumber, rewriteRoom, Done};
 
 // A refusal as one number.
 fn refusal_number(number: u8, line: usize) -> u32
@@ -18,24 +18,47 @@ fn refusal_number(number: u8, line: usize) -> u32
     65536 * (number as u32) + line as u32
 }
 
-// Plans the site and writes the plan text into the room: the length written, or 65,536 x refusal +
-// line with the room as it was. What was read needs no second check.
-#[no_mangle]
-pub extern "C" fn cartheron_plan(text: &[u8], room: &mut [u8]) -> u32
-    ensures { λ r. ⌜ (r ≡ planNumber (now (text .entry)) (length (now (room .entry)))) × (now (room .exit) ≡ planRoom (now (text .entry)) (now (room .entry))) ⌝ }
+// What a caller wants of a site that reads.
+enum Errand {
+    Plan,
+    Rewrite,
+}
+
+// Reads the site, and does what is wanted with its records: what was read needs no second check. Both
+// C functions go through here, so that one frame serves the reader and what comes after it.
+fn read_and(text: &[u8], room: &mut [u8], errand: Errand) -> u32
+    ensures { λ r. ⌜ Done errand (now (text .entry)) (now (room .entry)) r (now (room .exit)) ⌝ }
 {
     let reading = site::read(text);
     let verdict = reading.verdict;
     match verdict {
         Verdict::Refused { number, line } => refusal_number(number, line),
-        Verdict::Accepted => {
-            let answer = planner::plan_accepted(reading.site, room);
-            match answer {
-                Planned::Plan { length, order: _ } => length as u32,
-                Planned::Refused { number, line } => refusal_number(number, line),
+        Verdict::Accepted => match errand {
+            Errand::Plan => {
+                let answer = planner::plan_accepted(reading.site, room);
+                match answer {
+                    Planned::Plan { length, order: _ } => length as u32,
+                    Planned::Refused { number, line } => refusal_number(number, line),
+                }
             }
-        }
+            Errand::Rewrite => {
+                let written = writer::put_site(room, reading.site);
+                match written {
+                    Written::Length(length) => length as u32,
+                    Written::Refused { number, line } => refusal_number(number, line),
+                }
+            }
+        },
     }
+}
+
+// Plans the site and writes the plan text into the room: the length written, or 65,536 x refusal +
+// line with the room as it was.
+#[no_mangle]
+pub extern "C" fn cartheron_plan(text: &[u8], room: &mut [u8]) -> u32
+    ensures { λ r. ⌜ (r ≡ planNumber (now (text .entry)) (length (now (room .entry)))) × (now (room .exit) ≡ planRoom (now (text .entry)) (now (room .entry))) ⌝ }
+{
+    read_and(text, room, Errand::Plan)
 }
 
 // Reads the site and writes its text into the room: the length written, or 65,536 x refusal + line
@@ -44,18 +67,7 @@ pub extern "C" fn cartheron_plan(text: &[u8], room: &mut [u8]) -> u32
 pub extern "C" fn cartheron_rewrite(text: &[u8], room: &mut [u8]) -> u32
     ensures { λ r. ⌜ (r ≡ rewriteNumber (now (text .entry)) (length (now (room .entry)))) × (now (room .exit) ≡ rewriteRoom (now (text .entry)) (now (room .entry))) ⌝ }
 {
-    let reading = site::read(text);
-    let verdict = reading.verdict;
-    match verdict {
-        Verdict::Refused { number, line } => refusal_number(number, line),
-        Verdict::Accepted => {
-            let written = writer::put_site(room, reading.site);
-            match written {
-                Written::Length(length) => length as u32,
-                Written::Refused { number, line } => refusal_number(number, line),
-            }
-        }
-    }
+    read_and(text, room, Errand::Rewrite)
 }
 
 // Where the part begins that is shown for a line.

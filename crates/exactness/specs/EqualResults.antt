@@ -1,7 +1,7 @@
 -- Two results that one contract allows are equal (docs/PROMISES.md, "Theorems"), for each public function. A contract says that
 -- the result is d, or that the result is d and the room is e, with d and e made of the arguments alone, so each line here is an instance of one of two laws.
--- A part of a text that is shown is a place in memory and its bytes; these are equal, and nothing else of it can be looked at. The functions that fill number slices of
--- the planner's own and leave some of it open (constraints::settle, search::search) are the exceptions that docs/PROMISES.md explains.
+-- A part of a text that is shown is a place in memory and its bytes; these are equal, and nothing else of it can be looked at. The one exception, which
+-- docs/PROMISES.md explains, is a function that fills a number slice of the planner's own and leaves some of it open (constraints::settle).
 use mathlib.Core.Path.{_≡_}
 use mathlib.Core.List.{List, _++_}
 use Prim.Native.Nat.{ℕ, _+_, _*_, _<_, min}
@@ -16,6 +16,11 @@ use Rattle.model.specs.Orders.{portion, interval, lengthAt, permitted}
 use Rattle.model.specs.Plans.{plan as planOf}
 use Rattle.model.specs.Trees.{depth, top as topOf}
 use Rattle.constraints.specs.Entries.{limitsOf}
+use Rattle.model.specs.Sites as model
+use Rattle.search.specs.declared.Figures.{Figures}
+use Rattle.search.specs.declared.Found.{Found}
+use Rattle.search.specs.Deciding.{searched-once}
+use Rattle.search.specs.Posed.{Posed, Searched}
 use Rattle.sequence.specs.Holding.{inOrder, Sequenced}
 use Rattle.sequence.specs.Running.{sequenced-room}
 use Rattle.site.specs.declared.Site.{Site}
@@ -73,6 +78,8 @@ pub record EqualResults : Type 0 where
   pub top : (parents : List ℕ) (a b : ℕ) → OneResult (topOf (numberIn parents) a b)
   pub «limit_flows» : (descents deadlines : List ℕ) (interval : ℕ) → OneResult (limitsOf descents deadlines interval)
   pub sequence : (size : ℕ) (parent N : ℕ → ℕ) (room room₁ room₂ : List ℕ) (r₁ r₂ : ℕ) → Sequenced size parent N room room₁ r₁ → Sequenced size parent N room room₂ r₂ → (r₁ ≡ r₂) × (room₁ ≡ room₂)
+  pub search : (figures : Figures) (before counts₁ counts₂ : List ℕ) (r₁ r₂ : Found) → ((s : model.Site) × Posed s figures)
+      → ((s : model.Site) → Posed s figures → Searched s r₁ before counts₁) → ((s : model.Site) → Posed s figures → Searched s r₂ before counts₂) → (r₁ ≡ r₂) × (counts₁ ≡ counts₂)
   -- the writer and the planner, with the room that they were lent
   pub plan-text-length : (s : Site) (placed : List ℕ) (r₁ r₂ : ℕ) → ((order : ℕ) → r₁ ≡ length (planText s order placed)) → ((order : ℕ) → r₂ ≡ length (planText s order placed)) → r₁ ≡ r₂
   pub plan-text-put : (room : List ℕ) (s : Site) (order : ℕ) (placed : List ℕ) → OneResultInRoom (length (planText s order placed)) (put room 0 (planText s order placed))
@@ -119,6 +126,7 @@ results-are-equal = record {
   «limit_flows» = λ descents deadlines interval. equal-results (limitsOf descents deadlines interval);
   sequence = λ size parent N room room₁ room₂ r₁ r₂ p q. let placed = inOrder size parent N in
       equal-results-in-room (length placed) (placed ++ drop (length placed) room) r₁ r₂ room₁ room₂ (p .number, sequenced-room size parent N room room₁ r₁ p) (q .number, sequenced-room size parent N room room₂ r₂ q);
+  search = λ figures before counts₁ counts₂ r₁ r₂ w p q. searched-once (w .0) (p (w .0) (w .1)) (q (w .0) (w .1));
   plan-text-length = λ s placed r₁ r₂ p q. equal-results (length (planText s 0 placed)) r₁ r₂ (p 0) (q 0);
   plan-text-put = λ room s order placed. equal-results-in-room (length (planText s order placed)) (put room 0 (planText s order placed));
   «put_site» = λ s room. equal-results-in-room (fitting (textOf s) (length room)) (handed (textOf s) room);
