@@ -1,14 +1,20 @@
 -- `constraints::constraint_at` meets its contract. Each of its three ends gives the entry that the laws of the list say stands at the place: a flow's behind
 -- the tree's, and of the tree's an even and an odd one.
 use mathlib.Core.Path.{_≡_, sym, ap, _∙_}
-use Prim.Native.Nat.{ℕ, _+_, _-_, _*_, _/_}
+use Prim.Native.Nat.{ℕ, _+_, _-_, _*_}
 use native.Mathlib.Omega.{arith}
 use lib.ListN.{length, getD}
+use mir.Syntax.{w8, w32}
+use mir.Val.{Fits}
 use Rattle.constraints.specs.Entries.{blank, siteEntries}
 use Rattle.constraints.specs.EntryLaws.{site-even, site-odd, site-flow}
 use borrow.Author.Needs.{needs}
 use Rattle.constraints.proofs.constraint_at.Statement.{statement}
 use Rattle.constraints.proofs.constraint_at.Tie as tie
+
+-- an element of a slice of bytes fits 32 bits, whichever it is
+byte-fits : (x : ℕ) → Fits w8 x → Fits w32 x
+byte-fits x h = omega arith
 
 sub-of-tree : tie.Need-sub-of-tree
 sub-of-tree c = search needs
@@ -20,13 +26,13 @@ shared-slice-read-t13 : tie.Need-shared-slice-read-t13
 shared-slice-read-t13 c = search needs
 
 cast-t14 : tie.Need-cast-t14
-cast-t14 c = omega (arith, c .shared-slice-known .given (c .before .before .args .place - 2 * (length (c .before .before .args .parents .now) - 1)))
+cast-t14 c = byte-fits _ (c .shared-slice-known .given _)
 
 shared-slice-read-t16 : tie.Need-shared-slice-read-t16
 shared-slice-read-t16 c = search needs
 
 cast-t17 : tie.Need-cast-t17
-cast-t17 c = omega (arith, c .shared-slice-known2 .given (c .before .before .before .args .place - 2 * (length (c .before .before .before .args .parents .now) - 1)))
+cast-t17 c = byte-fits _ (c .shared-slice-known2 .given _)
 
 mul-t18 : tie.Need-mul-t18
 mul-t18 c = search needs
@@ -49,7 +55,7 @@ shared-slice-read-t23 : tie.Need-shared-slice-read-t23
 shared-slice-read-t23 c = search needs
 
 cast-t24 : tie.Need-cast-t24
-cast-t24 c = omega (arith, c .shared-slice-known4 .given (c .before .before .before .args .place / 2 + 1))
+cast-t24 c = byte-fits _ (c .shared-slice-known4 .given _)
 
 cast-t25 : tie.Need-cast-t25
 cast-t25 c = search needs
@@ -64,7 +70,7 @@ shared-slice-read-t29 : tie.Need-shared-slice-read-t29
 shared-slice-read-t29 c = search needs
 
 cast-t30 : tie.Need-cast-t30
-cast-t30 c = omega (arith, c .shared-slice-known5 .given (c .before .before .before .args .place / 2 + 1))
+cast-t30 c = byte-fits _ (c .shared-slice-known5 .given _)
 
 returns-2 : tie.Need-returns-2
 returns-2 c =

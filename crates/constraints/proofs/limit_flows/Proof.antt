@@ -5,6 +5,8 @@ use native.Mathlib.Nat.{div-lt-iff-lt-mul}
 use native.Mathlib.Omega.{arith}
 use lib.ListN.{length, take}
 use lib.Seq.{take-all}
+use mir.Syntax.{w32}
+use mir.Val.{Fits}
 use Rattle.model.specs.Counting.{at}
 use Rattle.constraints.specs.Entries.{limitsOf}
 use Rattle.constraints.specs.EntryLaws.{limits-length, limits-next}
@@ -25,12 +27,12 @@ Turn = tie.After-allowed Inv-loop μ-loop
 abbrev flow : Turn → ℕ
 flow turn = turn .before .before .before .loop .flow
 
+-- a deadline of 32 bits allows few crossings at an interval above 1
+crossings-few : (d p r : ℕ) → 1 < p → Fits w32 d → r ≡ d / p - 1 → r < 2 ^ 31
+crossings-few d p r h f e = let q : d / p < 2 ^ 31 = div-lt-iff-lt-mul {k = p} {x = d} {y = 2 ^ 31} (omega arith) .1 (omega arith) in omega arith
+
 allowed-few : (turn : Turn) → turn .allowed .result < 2 ^ 31
-allowed-few turn =
-    let a = turn .before .before .before .before .before .before .before .args in
-    let d = at (a .deadlines .now) (flow turn) in
-    let q : d / a .interval < 2 ^ 31 = div-lt-iff-lt-mul {k = a .interval} {x = d} {y = 2 ^ 31} (omega arith) .1 (omega (arith, turn .before .shared-slice-known3 .given (flow turn))) in
-    omega arith
+allowed-few turn = crossings-few _ _ _ (turn .before .before .before .before .before .before .before .pre .0) (turn .before .shared-slice-known3 .given _) (turn .allowed .ensures)
 
 shallow : (turn : Turn) → at (turn .before .before .before .before .before .before .before .args .descents .now) (flow turn) ≤ 63
 shallow turn = turn .before .before .before .before .before .before .before .pre .1 (flow turn) (omega arith)

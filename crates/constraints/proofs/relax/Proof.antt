@@ -215,7 +215,7 @@ module _ {M : Type 1} (𝓤 : URA M) (H : Heap 𝓤) (A : Atoms 𝓤) (W : Given
     rounds p =
         assigns ! (bin ! (load ! (from ! (stop !)) (look ! 10 refl)) (lit ! tt) tt) (from ! (stop !)) (init ! 22 refl (tt, tt)) $ first ! $ branches ! (load ! (from ! (stop !)) (look ! 22 refl))
         (λ none. assigns ! (agg ! (and-then ! (lit ! tt) (no-more !))) (from ! (stop !)) (init ! 20 refl (verdict-typed 𝓤 H A W NegativeLoop)) $
-        jumps ! $ exec ! C Λ En code-mir.t-3 (atRet En End) $ forget ! 10 refl $ forget ! 22 refl $ leaves NegativeLoop (p .start) (none-left ys d₀ p (eqb→eq (p .left) 0 none)))
+        jumps ! $ exec ! C Λ En code-mir.t-3 (atRet En End) $ forget ! 10 refl $ forget ! 22 refl $ leaves NegativeLoop (p .start) (none-left ys d₀ p (eqb→eq (p .left) _ none)))
         (λ more. skips ! $ exec ! C Λ En round-on (anyQ (Round-over p)) $ forget ! 22 refl $
         assigns ! (of-opd ! (false-lit !)) (from ! (stop !)) (init ! 12 refl (tt, tt)) $
         assigns ! (of-opd ! (lit ! tt)) (from ! (stop !)) (init ! 14 refl (tt, record { fits = lit< tt })) $
