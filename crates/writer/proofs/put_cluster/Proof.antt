@@ -1,5 +1,6 @@
 -- `writer::put_cluster` meets its contract: the values at their widths and the tag bytes that count are the cluster's bytes.
 use mathlib.Core.Path.{_≡_, refl, sym}
+use Prim.Native.Nat.{min}
 use native.Mathlib.Omega.{arith}
 use lib.ListN.{length}
 use lib.Seq.{length-take-le}
@@ -10,6 +11,10 @@ use Rattle.writer.proofs.put_cluster.Tie as tie
 
 whole : (c : tie.Start) → length (c .args .c .tag .bytes) ≡ 64
 whole c = search needs
+
+-- as many bytes of the tag are passed as its length says, and never more than 64
+all-counted : (called : tie.After-counted) → called .counted .result ≡ min (called .before .before .before .before .args .c .tag .len) 64
+all-counted called = called .counted .ensures
 
 counted-requires : tie.Need-counted-requires
 counted-requires c κs = search needs
@@ -42,7 +47,7 @@ put-line-requires : tie.Need-put-line-requires
 put-line-requires c κs =
     let called = c .before .before .before .before .before .before .before in
     let start = called .before .before .before .before in
-    (refl, rw (cluster-counted (start .args .c) (called .counted .result) (whole start) (called .counted .ensures)) (start .pre))
+    (refl, rw (cluster-counted (start .args .c) (called .counted .result) (whole start) (all-counted called)) (start .pre))
 
 same-length : tie.Need-same-length
 same-length c = search needs
@@ -51,7 +56,7 @@ returns : tie.Need-returns
 returns c =
     let called = c .before .before .before .before .before .before .before .before .before .before in
     let start = called .before .before .before .before in
-    let bytes = cluster-counted (start .args .c) (called .counted .result) (whole start) (called .counted .ensures) in
+    let bytes = cluster-counted (start .args .c) (called .counted .result) (whole start) (all-counted called) in
     let put = c .before .before .put-line .ensures in
     (rw bytes at (put .0), rw bytes at (put .1))
 
