@@ -21,7 +21,7 @@ element-copy-out-if1 : tie.Need-element-copy-out-if1 Inv-loop μ-loop
 element-copy-out-if1 c = search needs
 
 returns : tie.Need-returns Inv-loop μ-loop
-returns c = (c .before .before .loop-test .taken, c .if1 .taken, c .before .before .before .loop .inv .1)
+returns c = (search needs, c .if1 .taken, c .before .before .before .loop .inv .1)
 
 add-c : tie.Need-add-c Inv-loop μ-loop
 add-c c = search needs
