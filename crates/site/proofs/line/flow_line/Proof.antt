@@ -1,4 +1,5 @@
 -- `site::line::flow_line` meets its contract: the tests stand in the table's order, and each return computes by those on the way.
+use native.Mathlib.Omega.{arith}
 use borrow.Author.Tests.{lt-leb, le-leb, eq-eqb, ne-eqb}
 use Rattle.site.specs.Records.{flowOutside}
 use Rattle.site.specs.Lines.{size, flowOf}
@@ -45,7 +46,7 @@ returns-6 c = simp (eq-eqb _ _ (c .before .before .before .before .before .befor
 
 returns-7 : tie.Need-returns-7
 unfolding fieldsOf wrongLength size outside flowOutside flowOf misplaced recordOf
-returns-7 c = simp (eq-eqb _ _ (c .before .before .before .before .before .before .before .before .before .before .if1 .left), ← c .before .before .before .before .before .before .before .before .before .byte-at .ensures, lt-leb _ _ (c .before .before .before .before .before .before .before .before .if2 .left), ← c .before .before .before .before .before .before .before .byte-at2 .ensures, lt-leb _ _ (c .before .before .before .before .before .before .if3 .left), ← c .before .before .before .before .before .time-at .ensures, le-leb 1 _ (c .before .before .before .before .if4 .left), le-leb _ 1000000000 (c .before .before .before .if5 .left), ← c .before .before .time-at2 .ensures, le-leb 1 _ (c .before .if6 .left), lt-leb _ 1000000000 (c .if7 .taken))
+returns-7 c = simp (eq-eqb _ _ (c .before .before .before .before .before .before .before .before .before .before .if1 .left), ← c .before .before .before .before .before .before .before .before .before .byte-at .ensures, lt-leb _ _ (c .before .before .before .before .before .before .before .before .if2 .left), ← c .before .before .before .before .before .before .before .byte-at2 .ensures, lt-leb _ _ (c .before .before .before .before .before .before .if3 .left), ← c .before .before .before .before .before .time-at .ensures, le-leb 1 _ (c .before .before .before .before .if4 .left), le-leb _ 1000000000 (c .before .before .before .if5 .left), ← c .before .before .time-at2 .ensures, le-leb 1 _ (c .before .if6 .left), lt-leb (c .before .before .time-at2 .result) 1000000000 (omega arith))
 
 returns-8 : tie.Need-returns-8
 unfolding fieldsOf wrongLength size outside flowOutside flowOf misplaced recordOf
