@@ -21,7 +21,7 @@ part-result-start : tie.Need-part-result-start
 part-result-start c = search needs
 
 part-result-end : tie.Need-part-result-end
-part-result-end c = end-fits _ (c .before .before .before .args .k) _ _ (c .before .line-start .ensures) (c .line-end .ensures)
+part-result-end c = omega (arith, end-fits _ (c .before .before .before .args .k) _ _ (c .before .line-start .ensures) (c .line-end .ensures))
 
 returns : tie.Need-returns
 returns c = record {

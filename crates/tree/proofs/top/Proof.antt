@@ -65,7 +65,8 @@ loop-again-2 c =
 returns : tie.Need-returns Inv-loop μ-loop
 returns c =
     let inv = c .before .loop .inv in
-    sym (top-same _ _ (c .before .before .pre .2) _) ∙ (rw (sym (c .loop-test .left)) at (inv .2))
+    let met : c .before .loop .a ≡ c .before .loop .b = omega arith in
+    sym (top-same _ _ (c .before .before .pre .2) _) ∙ (rw (sym met) at (inv .2))
 
 pub top-spec : {M : Type 1} → statement M
 top-spec =
