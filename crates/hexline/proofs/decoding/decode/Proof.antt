@@ -1,0 +1,20 @@
+-- `hexline::decoding::decode` meets its contract: pair by pair is the whole line, and where all characters are digits the bytes are those of the definition.
+use Rattle.hexline.specs.DecodeLaws.{decoded}
+use borrow.Author.Needs.{needs}
+use Rattle.hexline.proofs.decoding.decode.Statement.{statement}
+use Rattle.hexline.proofs.decoding.decode.Tie as tie
+
+decode-few-requires : tie.Need-decode-few-requires
+decode-few-requires c κs = search needs
+
+returns : tie.Need-returns
+returns c = decoded _ _ _ _ (c .before .before .before .before .pre .1) (c .decode-few .ensures .0) (c .decode-few .ensures .1)
+
+decode-eights-requires : tie.Need-decode-eights-requires
+decode-eights-requires c κs = search needs
+
+returns-2 : tie.Need-returns-2
+returns-2 c = decoded _ _ _ _ (c .before .before .before .before .pre .1) (c .decode-eights .ensures .0) (c .decode-eights .ensures .1)
+
+pub decode-spec : {M : Type 1} → statement M
+decode-spec = tie.close (tie.spec decode-few-requires returns decode-eights-requires returns-2)

@@ -1,0 +1,123 @@
+// A line decoded once, from digits into bytes (docs/FORMATS.md, "Site text"), in blocks of sixteen
+// characters: no character ends a block early and none is looked up, so that a block is worked on
+// as a whole. What a line is, is then read off the bytes.
+use crate::is_digit;
+ghost use mathlib.Core.Path.{_≡_};
+ghost use mathlib.Core.Bool.{true};
+ghost use Prim.Native.Nat.{_+_, _*_, _/_, _%_, _≤_, _<_};
+ghost use lib.ListN.{length, getD, replicate};
+ghost use Rattle.hexline.specs.Blocks.{laid};
+ghost use Rattle.hexline.specs.Decoded.{Decoded, nibble as nibbleOf, pairAt, rawAt};
+ghost use Rattle.hexline.specs.Digits.{isDigit, allDigits, byteAt};
+ghost use Rattle.hexline.specs.Loops.{every, filled};
+
+// The value of a digit, without a test; some number for another character.
+fn nibble(c: u8) -> u8
+    ensures { λ r. ⌜ r ≡ nibbleOf c ⌝ }
+{
+    c % 16 + 9 * (c / 64)
+}
+
+// Whether the sixteen characters from `at` on are digits.
+fn sixteen_digits(line: &[u8], at: usize) -> bool
+    requires { ⌜ at + 16 ≤ length (now line) ⌝ }
+    ensures { λ r. ⌜ r ≡ every 16 (λ j. isDigit (getD (now (line .entry)) (at + j) 0)) ⌝ }
+{
+    let mut all = true;
+    let mut j: usize = 0;
+    while j < 16 {
+        all = all & is_digit(line[at + j]);
+        j += 1;
+    }
+    all
+}
+
+// The values of the sixteen characters from `at` on.
+fn sixteen_nibbles(line: &[u8], at: usize) -> [u8; 16]
+    requires { ⌜ at + 16 ≤ length (now line) ⌝ }
+    ensures { λ r. ⌜ r ≡ filled (λ j. nibbleOf (getD (now (line .entry)) (at + j) 0)) (replicate 16 0) 16 ⌝ }
+{
+    let mut nibbles = [0u8; 16];
+    let mut j: usize = 0;
+    while j < 16 {
+        nibbles[j] = nibble(line[at + j]);
+        j += 1;
+    }
+    nibbles
+}
+
+// Stores the eight bytes of sixteen values from `at` on.
+fn store_eight(nibbles: [u8; 16], at: usize, out: &mut [u8; 68])
+    requires { ⌜ at + 8 ≤ 68 ⌝ }
+    ensures { λ r. ⌜ now (out .exit) ≡ laid (pairAt nibbles) (now (out .entry)) at 8 ⌝ }
+{
+    let mut j: usize = 0;
+    while j < 8 {
+        out[at + j] = nibbles[2 * j] % 16 * 16 + nibbles[2 * j + 1] % 16;
+        j += 1;
+    }
+}
+
+// A line of fewer than sixteen characters, pair by pair.
+fn decode_few(line: &[u8], out: &mut [u8; 68]) -> bool
+    requires { ⌜ length (now line) ≤ 136 ⌝ }
+    ensures { λ r. ⌜ (r ≡ every (2 * (length (now (line .entry)) / 2)) (λ i. isDigit (getD (now (line .entry)) i 0))) × (now (out .exit) ≡ filled (rawAt (now (line .entry))) (now (out .entry)) (length (now (line .entry)) / 2)) ⌝ }
+{
+    let n = line.len() / 2;
+    let mut all = true;
+    let mut i: usize = 0;
+    while i < n {
+        let h = line[2 * i];
+        let l = line[2 * i + 1];
+        all = all & is_digit(h) & is_digit(l);
+        out[i] = nibble(h) % 16 * 16 + nibble(l) % 16;
+        i += 1;
+    }
+    all
+}
+
+// Where the next eight of n pairs begin, after i of them: at i, or so that they end at n.
+fn next_eight(n: usize, i: usize) -> usize
+    requires { ⌜ (8 ≤ n) × (i < n) ⌝ }
+    ensures { λ r. ⌜ (r ≤ i) × (i < r + 8) × (r + 8 ≤ n) ⌝ }
+{
+    if n - i < 8 { n - 8 } else { i }
+}
+
+// A line of sixteen characters or more, eight pairs at a time; the last eight may overlap those
+// before.
+fn decode_eights(line: &[u8], out: &mut [u8; 68]) -> bool
+    requires { ⌜ (16 ≤ length (now line)) × (length (now line) ≤ 136) ⌝ }
+    ensures { λ r. ⌜ (r ≡ every (2 * (length (now (line .entry)) / 2)) (λ i. isDigit (getD (now (line .entry)) i 0))) × (now (out .exit) ≡ filled (rawAt (now (line .entry))) (now (out .entry)) (length (now (line .entry)) / 2)) ⌝ }
+{
+    let n = line.len() / 2;
+    let mut all = true;
+    let mut i: usize = 0;
+    while i < n {
+        let at = next_eight(n, i);
+        all = all & sixteen_digits(line, 2 * at);
+        store_eight(sixteen_nibbles(line, 2 * at), at, out);
+        i = at + 8;
+    }
+    all
+}
+
+// Decodes a line of whole bytes: whether all its characters are digits, and where they are, its
+// bytes at the front of `out`, with what stood behind them left there.
+pub fn decode(line: &[u8], out: &mut [u8; 68]) -> bool
+    requires { ⌜ (length (now line) ≤ 136) × (length (now line) % 2 ≡ 0) ⌝ }
+    ensures { λ r. ⌜ (r ≡ allDigits (now (line .entry))) × (r ≡ true → now (out .exit) ≡ filled (byteAt (now (line .entry))) (now (out .entry)) (length (now (line .entry)) / 2)) ⌝ }
+{
+    if line.len() < 16 {
+        return decode_few(line, out);
+    }
+    decode_eights(line, out)
+}
+
+// Byte k of a line, read off its bytes. The line is there for the contract; no code reads it.
+pub fn byte_of(line: &[u8], bytes: &[u8; 68], k: usize) -> u8
+    requires { ⌜ (Decoded (now line) (now bytes)) × (2 * k + 1 < length (now line)) ⌝ }
+    ensures { λ r. ⌜ r ≡ byteAt (now (line .entry)) k ⌝ }
+{
+    bytes[k]
+}
