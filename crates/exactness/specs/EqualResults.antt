@@ -1,13 +1,16 @@
 -- Two results that one contract allows are equal (docs/PROMISES.md, "Theorems"), for each public function. A contract says that
 -- the result is d, or that the result is d and the room is e, with d and e made of the arguments alone, so each line here is an instance of one of two laws.
--- A part of a text that is shown is a place in memory and its bytes; these are equal, and nothing else of it can be looked at. The one exception, which
--- docs/PROMISES.md explains, is a function that fills a number slice of the planner's own and leaves some of it open (constraints::settle).
-use mathlib.Core.Path.{_≡_}
+-- A part of a text that is shown is a place in memory and its bytes; these are equal, and nothing else of it can be looked at. The two exceptions,
+-- which docs/PROMISES.md explains, are functions that fill an array of inner functions' own and leave some of it open (constraints::settle, hexline::is_malformed).
+use mathlib.Core.Path.{_≡_, sym, _∙_}
+use mathlib.Core.Bool.{Bool, false}
 use mathlib.Core.List.{List, _++_}
-use Prim.Native.Nat.{ℕ, _+_, _*_, _<_, min}
-use lib.ListN.{length, drop}
+use Prim.Native.Nat.{ℕ, _+_, _*_, _/_, _<_, min}
+use lib.ListN.{length, drop, replicate}
 use denote.Ref.{RefT, ptr, now}
-use Rattle.hexline.specs.Digits.{isDigit, digit, hexOf, allDigits, byteAt, numberAt, hexes, numberBytes, fieldBytes, lineOf}
+use Rattle.hexline.specs.Digits.{isDigit, digit, hexOf, byteAt, numberAt, hexes, numberBytes, fieldBytes, lineOf}
+use Rattle.hexline.specs.Loops.{filled}
+use Rattle.hexline.specs.Decoded.{Decoded}
 use Rattle.hexline.specs.Lines.{Row, lineLength, malformed}
 use Rattle.hexline.specs.Room.{put, handed}
 use Rattle.model.specs.declared.Order.{Order}
@@ -49,8 +52,9 @@ pub record EqualResults : Type 0 where
   pub «is_digit» : (b : ℕ) → OneResult (isDigit b)
   pub «digit_of» : (b : ℕ) → OneResult (digit b)
   pub «hex_of» : (v : ℕ) → OneResult (hexOf v)
-  pub «all_digits» : (line : List ℕ) → OneResult (allDigits line)
-  pub «is_malformed» : (most : ℕ) (r : Row) → OneResult (malformed most r)
+  pub «is_malformed» : (most : ℕ) (r : Row) (r₁ r₂ : Bool) (bytes₁ bytes₂ : List ℕ) → (r₁ ≡ malformed most r) × (r₁ ≡ false → Decoded (r .chars) bytes₁)
+      → (r₂ ≡ malformed most r) × (r₂ ≡ false → Decoded (r .chars) bytes₂) → (r₁ ≡ r₂) × (r₁ ≡ false → bytes₁ ≡ bytes₂)
+  pub «byte_of» : (line : List ℕ) (k : ℕ) → OneResult (byteAt line k)
   pub «byte_at» : (line : List ℕ) (k : ℕ) → OneResult (byteAt line k)
   pub «number_at» : (line : List ℕ) (k width : ℕ) → OneResult (numberAt line k width)
   pub «line_end» : (text : List ℕ) (at : ℕ) → OneResult (at + lineLength (drop at text))
@@ -98,8 +102,10 @@ results-are-equal = record {
   «is_digit» = λ b. equal-results (isDigit b);
   «digit_of» = λ b. equal-results (digit b);
   «hex_of» = λ v. equal-results (hexOf v);
-  «all_digits» = λ line. equal-results (allDigits line);
-  «is_malformed» = λ most r. equal-results (malformed most r);
+  «is_malformed» = λ most r r₁ r₂ bytes₁ bytes₂ p q.
+      let e = equal-results (malformed most r) r₁ r₂ (p .0) (q .0) in
+      (e, λ f. equal-results (filled (byteAt (r .chars)) (replicate 68 0) (length (r .chars) / 2)) bytes₁ bytes₂ (p .1 f .bytes) (q .1 (sym e ∙ f) .bytes));
+  «byte_of» = λ line k. equal-results (byteAt line k);
   «byte_at» = λ line k. equal-results (byteAt line k);
   «number_at» = λ line k width. equal-results (numberAt line k width);
   «line_end» = λ text at. equal-results (at + lineLength (drop at text));

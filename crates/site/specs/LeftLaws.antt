@@ -59,7 +59,7 @@ module _ (t : List ℕ) (at k : ℕ) (s : Site) where
     unfolding leftAt
     left-flow a b q d g = split ∙ rows-flow k s row others a b q d g
 
-    module _ (q o a m : ℕ) (g : ClusterIs k n f (s .clusters) row q o a m) (u : Tag) (made : u ≡ tagAt (row .chars) a m) where
+    module _ (q o a m : ℕ) (g : ClusterIs k n f (s .clusters) row q o a m) (u : Tag) (made : u ≡ tagAt (row .chars) 4 m) where
       pub left-repeated : tagTaken (s .clusters) (k - 2) u ≡ true → leftAt t at k s ≡ refused 6 k
       left-repeated y = split ∙ rows-repeated k s row others q o a m g u made y
 

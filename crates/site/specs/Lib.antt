@@ -4,6 +4,8 @@ pub mod Lines
 pub mod Table
 pub mod Reading
 pub mod Answers
+-- what tells tags apart while reading
+pub mod Prints
 -- a theorem: what the line reader's answer says
 pub mod LineAnswers
 -- laws of them, which the code and the theorems use

@@ -12,7 +12,7 @@ use Rattle.model.specs.Orders.{largest}
 use Rattle.hexline.specs.Loops.{decide}
 use Rattle.hexline.specs.Digits.{between, byteAt}
 use Rattle.hexline.specs.DigitLaws.{between-true}
-use Rattle.hexline.specs.Lines.{Row}
+use Rattle.hexline.specs.Lines.{Row, malformed}
 use Rattle.hexline.specs.LineLaws.{none-of}
 use Rattle.site.specs.declared.Tag.{Tag}
 use Rattle.site.specs.declared.Cluster.{Cluster}
@@ -117,9 +117,9 @@ module _ (k n f : ℕ) (cs : List Cluster) (r : Row) where
     pub kind : due k n f ≡ 2
     pub after : 1 < k
     pub within : k ≤ 1 + n
-    pub short : m ≤ 64
-    pub inside : 2 * (a + m) ≤ length (r .chars)
-    pub spelled : (t : Tag) → t ≡ tagAt (r .chars) a m → clusterOf (r .chars) ≡ record { parent = p; order = o; tag = t }
+    pub formed : malformed 136 r ≡ false
+    pub whole : length (r .chars) / 2 ≡ 4 + m
+    pub spelled : (t : Tag) → t ≡ tagAt (r .chars) 4 m → clusterOf (r .chars) ≡ record { parent = p; order = o; tag = t }
     pub taken : refusal k n f cs r ≡ cond (tagTaken cs (k - 2) (clusterOf (r .chars) .tag)) 6 0
 
   pub cluster-is : (p o a m : ℕ) → entryOf k n f r ≡ ClusterLine p o a m → ClusterIs p o a m
@@ -146,14 +146,13 @@ module _ (k n f : ℕ) (cs : List Cluster) (r : Row) where
             let x : byteAt l 1 ≡ p = cc in
             let y : byteAt l 2 ≡ o = cc in
             let w : byteAt l 3 ≡ m = cc in
-            let b : 4 ≡ a = cc in
             record {
               kind = d;
               after = after;
               within = within;
-              short = omega arith;
-              inside = omega arith;
-              spelled = λ u made. rw (made, x, y, w, ← b);
+              formed = t .0;
+              whole = rw w at long;
+              spelled = λ u made. rw (made, x, y, w);
               taken = sixth (h .0) ∙ rw d;
             }
       ]
@@ -227,7 +226,7 @@ module _ (k : ℕ) (s : Site) (r : Row) (rs : List Row) where
   unfolding entered
   rows-flow a b p d g = rows-taken (g .passes) ∙ rw (g .kind, g .spelled)
 
-  module _ (p o a m : ℕ) (g : ClusterIs k n f (s .clusters) r p o a m) (t : Tag) (made : t ≡ tagAt (r .chars) a m) where
+  module _ (p o a m : ℕ) (g : ClusterIs k n f (s .clusters) r p o a m) (t : Tag) (made : t ≡ tagAt (r .chars) 4 m) where
     pub rows-repeated : tagTaken (s .clusters) (k - 2) t ≡ true → readRows k s (r ∷ rs) ≡ refused 6 k
     rows-repeated u = rows-refused 6 (λ z. omega arith) (g .taken ∙ rw (g .spelled t made, u))
 

@@ -8,9 +8,12 @@ use crate::MOST_TIME;
 use model::Order;
 use model::wide;
 ghost use mathlib.Core.Path.{_≡_};
+ghost use mathlib.Core.Bool.{false};
 ghost use Prim.Native.Nat.{_+_, _*_, _≤_, _<_};
-ghost use lib.ListN.{length};
+ghost use lib.ListN.{length, replicate};
+ghost use Rattle.hexline.specs.Decoded.{Decoded};
 ghost use Rattle.hexline.specs.Digits.{numberAt};
+ghost use Rattle.hexline.specs.Lines.{malformed};
 ghost use Rattle.site.specs.Lines.{printableLine};
 ghost use Rattle.site.specs.Records.{wrongParent};
 ghost use Rattle.site.specs.Table.{due, fieldsOf, entryOf};
@@ -34,27 +37,38 @@ pub fn due_at(k: usize, clusters: u8, flows: u8) -> u8
 }
 
 // Whether the tag bytes of a cluster line are all from 21 to 7E.
-fn printable_line(line: &[u8], len: u8) -> bool
-    requires { ⌜ 8 + 2 * len ≤ length (now line) ⌝ }
+fn printable_line(line: &[u8], bytes: &[u8; 68], len: u8) -> bool
+    requires { ⌜ (Decoded (now line) (now bytes)) × (8 + 2 * len ≤ length (now line)) ⌝ }
     ensures { λ r. ⌜ r ≡ printableLine (now (line .entry)) len ⌝ }
 {
     let n = wide(len);
     let mut all = true;
     let mut i: usize = 0;
     while i < n {
-        let b = hexline::byte_at(line, 4 + i);
+        let b = hexline::byte_of(line, bytes, 4 + i);
         all = all & ((33 <= b) & (b <= 126));
         i += 1;
     }
     all
 }
 
+fn value_of(b: u8) -> u32
+    ensures { λ r. ⌜ (r ≡ b) × (r < 256) ⌝ }
+{
+    b as u32
+}
+
 // The four bytes from byte k of a line on, as a number.
-fn time_at(line: &[u8], k: usize) -> u32
-    requires { ⌜ 2 * (k + 4) ≤ length (now line) ⌝ }
+fn time_of(line: &[u8], bytes: &[u8; 68], k: usize) -> u32
+    requires { ⌜ (Decoded (now line) (now bytes)) × (2 * (k + 4) ≤ length (now line)) ⌝ }
     ensures { λ r. ⌜ r ≡ numberAt (now (line .entry)) k 4 ⌝ }
 {
-    hexline::number_at(line, k, 4) as u32
+    ((value_of(hexline::byte_of(line, bytes, k)) * 256
+        + value_of(hexline::byte_of(line, bytes, k + 1)))
+        * 256
+        + value_of(hexline::byte_of(line, bytes, k + 2)))
+        * 256
+        + value_of(hexline::byte_of(line, bytes, k + 3))
 }
 
 // Whether the parent of cluster i is wrong: the root's is 255, another's is a lower number.
@@ -68,41 +82,42 @@ pub fn bad_parent(i: usize, parent: u8) -> bool
     }
 }
 
-fn header_line(line: &[u8], k: usize) -> Entry
+fn header_line(line: &[u8], bytes: &[u8; 68], k: usize) -> Entry
+    requires { ⌜ Decoded (now line) (now bytes) ⌝ }
     ensures { λ r. ⌜ r ≡ fieldsOf 1 k 0 (now (line .entry)) ⌝ }
 {
     if line.len() / 2 != 4 {
         return Entry::Refused { number: 3, line: k };
     }
-    if hexline::byte_at(line, 1) != 1 {
+    if hexline::byte_of(line, bytes, 1) != 1 {
         return Entry::Refused { number: 4, line: k };
     }
-    let clusters = hexline::byte_at(line, 2);
+    let clusters = hexline::byte_of(line, bytes, 2);
     if clusters < 1 {
         return Entry::Refused { number: 4, line: k };
     }
     if clusters > MOST_CLUSTERS {
         return Entry::Refused { number: 4, line: k };
     }
-    let flows = hexline::byte_at(line, 3);
+    let flows = hexline::byte_of(line, bytes, 3);
     if flows > MOST_FLOWS {
         return Entry::Refused { number: 4, line: k };
     }
     Entry::Header { clusters, flows }
 }
 
-fn cluster_line(line: &[u8], k: usize) -> Entry
-    requires { ⌜ 2 ≤ k ⌝ }
+fn cluster_line(line: &[u8], bytes: &[u8; 68], k: usize) -> Entry
+    requires { ⌜ (Decoded (now line) (now bytes)) × (2 ≤ k) ⌝ }
     ensures { λ r. ⌜ r ≡ fieldsOf 2 k 0 (now (line .entry)) ⌝ }
 {
     if line.len() < 8 {
         return Entry::Refused { number: 3, line: k };
     }
-    let len = hexline::byte_at(line, 3);
+    let len = hexline::byte_of(line, bytes, 3);
     if line.len() / 2 != 4 + wide(len) {
         return Entry::Refused { number: 3, line: k };
     }
-    let order = hexline::byte_at(line, 2);
+    let order = hexline::byte_of(line, bytes, 2);
     if order > Order::LARGEST {
         return Entry::Refused { number: 4, line: k };
     }
@@ -112,10 +127,10 @@ fn cluster_line(line: &[u8], k: usize) -> Entry
     if len > MOST_TAG {
         return Entry::Refused { number: 4, line: k };
     }
-    if !printable_line(line, len) {
+    if !printable_line(line, bytes, len) {
         return Entry::Refused { number: 4, line: k };
     }
-    let parent = hexline::byte_at(line, 1);
+    let parent = hexline::byte_of(line, bytes, 1);
     if bad_parent(k - 2, parent) {
         return Entry::Refused { number: 5, line: k };
     }
@@ -127,28 +142,29 @@ fn cluster_line(line: &[u8], k: usize) -> Entry
     }
 }
 
-fn flow_line(line: &[u8], k: usize, clusters: u8) -> Entry
+fn flow_line(line: &[u8], bytes: &[u8; 68], k: usize, clusters: u8) -> Entry
+    requires { ⌜ Decoded (now line) (now bytes) ⌝ }
     ensures { λ r. ⌜ r ≡ fieldsOf 3 k clusters (now (line .entry)) ⌝ }
 {
     if line.len() / 2 != 11 {
         return Entry::Refused { number: 3, line: k };
     }
-    let source = hexline::byte_at(line, 1);
+    let source = hexline::byte_of(line, bytes, 1);
     if source >= clusters {
         return Entry::Refused { number: 4, line: k };
     }
-    let sink = hexline::byte_at(line, 2);
+    let sink = hexline::byte_of(line, bytes, 2);
     if sink >= clusters {
         return Entry::Refused { number: 4, line: k };
     }
-    let period = time_at(line, 3);
+    let period = time_of(line, bytes, 3);
     if period < 1 {
         return Entry::Refused { number: 4, line: k };
     }
     if period > MOST_TIME {
         return Entry::Refused { number: 4, line: k };
     }
-    let deadline = time_at(line, 7);
+    let deadline = time_of(line, bytes, 7);
     if deadline < 1 {
         return Entry::Refused { number: 4, line: k };
     }
@@ -164,25 +180,42 @@ fn flow_line(line: &[u8], k: usize, clusters: u8) -> Entry
 }
 
 // What line k is, where the header says so many clusters and flows; `ended` says whether an LF ends
-// it. The tests stand in the order of their refusal numbers.
-pub fn read_line(line: &[u8], ended: bool, k: usize, clusters: u8, flows: u8) -> Entry
-    ensures { λ r. ⌜ r ≡ entryOf k clusters flows (record { chars = now (line .entry); ended = ended }) ⌝ }
+// it. The tests stand in the order of their refusal numbers. Where the line is well formed, its
+// bytes stand in `bytes`.
+pub fn line_entry(
+    line: &[u8],
+    bytes: &mut [u8; 68],
+    ended: bool,
+    k: usize,
+    clusters: u8,
+    flows: u8,
+) -> Entry
+    requires { ⌜ now bytes ≡ replicate 68 0 ⌝ }
+    ensures { λ r. ⌜ (r ≡ entryOf k clusters flows (record { chars = now (line .entry); ended = ended })) × (malformed 136 (record { chars = now (line .entry); ended = ended }) ≡ false → Decoded (now (line .entry)) (now (bytes .exit))) ⌝ }
 {
-    if hexline::is_malformed(line, ended, MOST_DIGITS) {
+    if hexline::is_malformed(line, ended, MOST_DIGITS, bytes) {
         return Entry::Refused { number: 1, line: k };
     }
     let kind = due_at(k, clusters, flows);
     if kind == 0 {
         return Entry::Refused { number: 2, line: k };
     }
-    if hexline::byte_at(line, 0) != kind {
+    if hexline::byte_of(line, bytes, 0) != kind {
         return Entry::Refused { number: 2, line: k };
     }
     if kind == 1 {
-        return header_line(line, k);
+        return header_line(line, bytes, k);
     }
     if kind == 2 {
-        return cluster_line(line, k);
+        return cluster_line(line, bytes, k);
     }
-    flow_line(line, k, clusters)
+    flow_line(line, bytes, k, clusters)
+}
+
+// The same, for a caller who has no use for the line's bytes.
+pub fn read_line(line: &[u8], ended: bool, k: usize, clusters: u8, flows: u8) -> Entry
+    ensures { λ r. ⌜ r ≡ entryOf k clusters flows (record { chars = now (line .entry); ended = ended }) ⌝ }
+{
+    let mut bytes = [0u8; 68];
+    line_entry(line, &mut bytes, ended, k, clusters, flows)
 }

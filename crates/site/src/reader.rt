@@ -7,9 +7,9 @@ use crate::Site;
 use crate::Tag;
 use crate::Verdict;
 use crate::line::due_at;
-use crate::line::read_line;
+use crate::line::line_entry;
 use crate::tags::same_tag;
-use crate::tags::tag_at;
+use crate::tags::tag_of;
 use model::wide;
 ghost use mathlib.Core.Path.{_≡_};
 ghost use Rattle.site.specs.Records.{noSite};
@@ -73,8 +73,10 @@ pub fn read(text: &[u8]) -> Reading
     while at < text.len() {
         let end = hexline::line_end(text, at);
         let line = &text[at..end];
-        let entry = read_line(
+        let mut bytes = [0u8; 68];
+        let entry = line_entry(
             line,
+            &mut bytes,
             end < text.len(),
             k,
             site.cluster_count,
@@ -93,10 +95,10 @@ pub fn read(text: &[u8]) -> Reading
             Entry::Cluster {
                 parent,
                 order,
-                place,
+                place: _,
                 len,
             } => {
-                let tag = tag_at(line, place, len);
+                let tag = tag_of(line, &bytes, len);
                 let i = k - 2;
                 let mut j: usize = 0;
                 while j < i {

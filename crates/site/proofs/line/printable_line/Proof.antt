@@ -10,10 +10,10 @@ use Rattle.site.proofs.line.printable_line.Statement.{statement}
 use Rattle.site.proofs.line.printable_line.Tie as tie
 
 abbrev Inv-loop : tie.InvT-loop
-Inv-loop line len n all₀ i₀ all i = (i ≤ n) × (all ≡ every i (λ k. between 33 126 (byteAt line (4 + k))))
+Inv-loop line bytes len n all₀ i₀ all i = (i ≤ n) × (all ≡ every i (λ k. between 33 126 (byteAt line (4 + k))))
 
 abbrev μ-loop : tie.MeasureT-loop
-μ-loop line len n all₀ i₀ all i = n - i
+μ-loop line bytes len n all₀ i₀ all i = n - i
 
 wide-requires : tie.Need-wide-requires Inv-loop μ-loop
 wide-requires c κs = search needs
@@ -21,11 +21,11 @@ wide-requires c κs = search needs
 loop-holds : tie.Need-loop-holds Inv-loop μ-loop
 loop-holds c = (search needs, sym (every-none _))
 
-add-byte-at : tie.Need-add-byte-at Inv-loop μ-loop
-add-byte-at c = search needs
+add-byte-of : tie.Need-add-byte-of Inv-loop μ-loop
+add-byte-of c = search needs
 
-byte-at-requires : tie.Need-byte-at-requires Inv-loop μ-loop
-byte-at-requires c κs = search needs
+byte-of-requires : tie.Need-byte-of-requires Inv-loop μ-loop
+byte-of-requires c κs = search needs
 
 add-i : tie.Need-add-i Inv-loop μ-loop
 add-i c = search needs
@@ -36,7 +36,7 @@ loop-less c = search needs
 loop-again : tie.Need-loop-again Inv-loop μ-loop
 loop-again c = (
   search needs,
-  rw (c .before .before .loop .inv .1, c .byte-at .ensures) (every-next _ (c .before .before .loop .i)),
+  rw (c .before .before .loop .inv .1, c .byte-of .ensures) (every-next _ (c .before .before .loop .i)),
 )
 
 returns : tie.Need-returns Inv-loop μ-loop
@@ -46,4 +46,4 @@ returns c =
     rw all at (c .before .loop .inv .1)
 
 pub printable-line-spec : {M : Type 1} → statement M
-printable-line-spec = tie.close (tie.spec Inv-loop μ-loop wide-requires loop-holds add-byte-at byte-at-requires add-i loop-less loop-again returns)
+printable-line-spec = tie.close (tie.spec Inv-loop μ-loop wide-requires loop-holds add-byte-of byte-of-requires add-i loop-less loop-again returns)

@@ -23,10 +23,10 @@ use Rattle.site.proofs.reader.read.Statement.{statement}
 use Rattle.site.proofs.reader.read.Tie as tie
 
 abbrev Inv-loop2 : tie.InvT-loop2
-Inv-loop2 text site at k end next after parent order place len tag i j₀ j = (j ≤ i) × (every j (λ m. not (sameTag (getD (site .clusters) m absent .tag) tag)) ≡ true)
+Inv-loop2 text site at k end next after parent order len tag i j₀ j = (j ≤ i) × (every j (λ m. not (sameTag (getD (site .clusters) m absent .tag) tag)) ≡ true)
 
 abbrev μ-loop2 : tie.MeasureT-loop2
-μ-loop2 text site at k end next after parent order place len tag i j₀ j = i - j
+μ-loop2 text site at k end next after parent order len tag i j₀ j = i - j
 
 abbrev Inv-loop : tie.InvT-loop
 Inv-loop text site₀ at₀ k₀ site at k = (leftAt text at k site ≡ readText text) × Sized site × (k ≤ at + 1) × (at ≤ length text + 1)
@@ -36,28 +36,28 @@ abbrev μ-loop : tie.MeasureT-loop
 
 -- a turn of the loop over the lines, after the line reader has answered
 abbrev Turn : Type 0
-Turn = tie.After-read-line Inv-loop2 μ-loop2 Inv-loop μ-loop
+Turn = tie.After-line-entry Inv-loop2 μ-loop2 Inv-loop μ-loop
 
 abbrev text : Turn → List ℕ
-text turn = turn .before .before .before .before .before .before .before .args .text .now
+text turn = turn .before .before .before .before .before .before .before .before .args .text .now
 
 abbrev at : Turn → ℕ
-at turn = turn .before .before .before .before .loop .at
+at turn = turn .before .before .before .before .before .loop .at
 
 abbrev number : Turn → ℕ
-number turn = turn .before .before .before .before .loop .k
+number turn = turn .before .before .before .before .before .loop .k
 
 abbrev records : Turn → Site
-records turn = turn .before .before .before .before .loop .site
+records turn = turn .before .before .before .before .before .loop .site
 
 abbrev end : Turn → ℕ
-end turn = turn .before .before .line-end .result
+end turn = turn .before .before .before .line-end .result
 
 running : (turn : Turn) → at turn < length (text turn)
-running turn = turn .before .before .before .loop-test .taken
+running turn = turn .before .before .before .before .loop-test .taken
 
 ended : (turn : Turn) → end turn ≡ at turn + lineLength (drop (at turn) (text turn))
-ended turn = turn .before .before .line-end .ensures
+ended turn = turn .before .before .before .line-end .ensures
 
 inside : (turn : Turn) → end turn ≤ length (text turn)
 inside turn = line-inside (text turn) (at turn) (end turn) (omega (arith, running turn)) (ended turn)
@@ -66,13 +66,13 @@ onward : (turn : Turn) → length (text turn) + 1 - (end turn + 1) < length (tex
 onward turn = omega (arith, inside turn, ended turn, running turn)
 
 so-far : (turn : Turn) → leftAt (text turn) (at turn) (number turn) (records turn) ≡ readText (text turn)
-so-far turn = turn .before .before .before .before .loop .inv .0
+so-far turn = turn .before .before .before .before .before .loop .inv .0
 
 sized : (turn : Turn) → Sized (records turn)
-sized turn = turn .before .before .before .before .loop .inv .1
+sized turn = turn .before .before .before .before .before .loop .inv .1
 
 few : (turn : Turn) → number turn ≤ at turn + 1
-few turn = turn .before .before .before .before .loop .inv .2
+few turn = turn .before .before .before .before .before .loop .inv .2
 
 -- the line that the reader was given
 abbrev row : Turn → Row
@@ -86,11 +86,11 @@ flows turn = records turn .«flow_count»
 
 -- what is known of it where the reader answers with a cluster, and with a flow
 module _ (turn : Turn) where
-  cluster-line : {p o a m : ℕ} → turn .read-line .result ≡ ClusterLine p o a m → ClusterIs (number turn) (clusters turn) (flows turn) (records turn .clusters) (row turn) p o a m
-  cluster-line e = cluster-is (number turn) (clusters turn) (flows turn) (records turn .clusters) (row turn) _ _ _ _ (sym (turn .read-line .ensures) ∙ e)
+  cluster-line : {p o a m : ℕ} → turn .line-entry .result ≡ ClusterLine p o a m → ClusterIs (number turn) (clusters turn) (flows turn) (records turn .clusters) (row turn) p o a m
+  cluster-line e = cluster-is (number turn) (clusters turn) (flows turn) (records turn .clusters) (row turn) _ _ _ _ (sym (turn .line-entry .ensures .0) ∙ e)
 
-  flow-line : {a b p d : ℕ} → turn .read-line .result ≡ FlowLine a b p d → FlowIs (number turn) (clusters turn) (flows turn) (records turn .clusters) (row turn) a b p d
-  flow-line e = flow-is (number turn) (clusters turn) (flows turn) (records turn .clusters) (row turn) _ _ _ _ (sym (turn .read-line .ensures) ∙ e)
+  flow-line : {a b p d : ℕ} → turn .line-entry .result ≡ FlowLine a b p d → FlowIs (number turn) (clusters turn) (flows turn) (records turn .clusters) (row turn) a b p d
+  flow-line e = flow-is (number turn) (clusters turn) (flows turn) (records turn .clusters) (row turn) _ _ _ _ (sym (turn .line-entry .ensures .0) ∙ e)
 
 -- a cluster's line is the second or a later one, and its cluster has room
 cluster-room : (c : tie.After-entry3 Inv-loop2 μ-loop2 Inv-loop μ-loop) →
@@ -137,8 +137,8 @@ part-line-start c = search needs
 part-line-end : tie.Need-part-line-end Inv-loop2 μ-loop2 Inv-loop μ-loop
 part-line-end c = line-inside (c .before .before .before .before .before .args .text .now) (c .before .before .loop .at) (c .line-end .result) (omega arith) (c .line-end .ensures)
 
-read-line-requires : tie.Need-read-line-requires Inv-loop2 μ-loop2 Inv-loop μ-loop
-read-line-requires c κs = search needs
+line-entry-requires : tie.Need-line-entry-requires Inv-loop2 μ-loop2 Inv-loop μ-loop
+line-entry-requires c κs = search needs
 
 add-next : tie.Need-add-next Inv-loop2 μ-loop2 Inv-loop μ-loop
 add-next c = omega (arith, few c, running c, inside c)
@@ -155,7 +155,7 @@ refused-requires c κs = search needs
 returns : tie.Need-returns Inv-loop2 μ-loop2 Inv-loop μ-loop
 returns c =
     let turn = c .before .before .before .before in
-    let is = sym (turn .read-line .ensures) ∙ c .before .before .entry .given .1 in
+    let is = sym (turn .line-entry .ensures .0) ∙ c .before .before .entry .given .1 in
     c .refused .ensures ∙ sym (left-refused (text turn) (at turn) (number turn) (records turn) (end turn) (running turn) (ended turn) _ _ is) ∙ so-far turn
 
 enum-known-entry-2 : tie.Need-enum-known-entry-2 Inv-loop2 μ-loop2 Inv-loop μ-loop
@@ -168,29 +168,30 @@ loop-again : tie.Need-loop-again Inv-loop2 μ-loop2 Inv-loop μ-loop
 unfolding withHeader
 loop-again c =
     let turn = c .before .before .before in
-    let line = header-is (number turn) (clusters turn) (flows turn) (records turn .clusters) (row turn) _ _ (sym (turn .read-line .ensures) ∙ c .before .entry2 .given .1) in
+    let line = header-is (number turn) (clusters turn) (flows turn) (records turn .clusters) (row turn) _ _ (sym (turn .line-entry .ensures .0) ∙ c .before .entry2 .given .1) in
     let left = left-header (text turn) (at turn) (number turn) (records turn) (end turn) (running turn) (ended turn) _ _ line in
     (sym left ∙ so-far turn, sized-header (records turn) (sized turn) _ _ (line .fewClusters) (line .fewFlows), omega (arith, few turn, ended turn), omega (arith, inside turn))
 
 enum-known-entry-3 : tie.Need-enum-known-entry-3 Inv-loop2 μ-loop2 Inv-loop μ-loop
 enum-known-entry-3 c = search needs
 
-tag-at-requires : tie.Need-tag-at-requires Inv-loop2 μ-loop2 Inv-loop μ-loop
-tag-at-requires c κs =
-    let line = cluster-line (c .before .before .before) (c .before .entry3 .given .1) in
-    (line .short, line .inside)
+tag-of-requires : tie.Need-tag-of-requires Inv-loop2 μ-loop2 Inv-loop μ-loop
+tag-of-requires c κs =
+    let turn = c .before .before .before .before in
+    let line = cluster-line turn (c .before .before .entry3 .given .1) in
+    (turn .line-entry .ensures .1 (line .formed), line .whole)
 
 sub-i : tie.Need-sub-i Inv-loop2 μ-loop2 Inv-loop μ-loop
-sub-i c = omega (arith, cluster-room (c .before .before))
+sub-i c = omega (arith, cluster-room (c .before .before .before))
 
 loop2-holds : tie.Need-loop2-holds Inv-loop2 μ-loop2 Inv-loop μ-loop
 loop2-holds c = (search needs, every-none _)
 
 mul-earlier : tie.Need-mul-earlier Inv-loop2 μ-loop2 Inv-loop μ-loop
-mul-earlier c = omega (arith, c .loop2-test .taken, cluster-room (c .before .before .before .before))
+mul-earlier c = omega (arith, c .loop2-test .taken, cluster-room (c .before .before .before .before .before))
 
 element-copy-out-earlier : tie.Need-element-copy-out-earlier Inv-loop2 μ-loop2 Inv-loop μ-loop
-element-copy-out-earlier c = omega (arith, c .loop2-test .taken, cluster-room (c .before .before .before .before))
+element-copy-out-earlier c = omega (arith, c .loop2-test .taken, cluster-room (c .before .before .before .before .before))
 
 same-tag-requires : tie.Need-same-tag-requires Inv-loop2 μ-loop2 Inv-loop μ-loop
 same-tag-requires c κs = search needs
@@ -200,9 +201,9 @@ refused-requires-2 c κs = search needs
 
 returns-2 : tie.Need-returns-2 Inv-loop2 μ-loop2 Inv-loop μ-loop
 returns-2 c =
-    let turn = c .before .before .before .before .before .before .before .before .before .before in
-    let line = cluster-line turn (c .before .before .before .before .before .before .before .before .entry3 .given .1) in
-    let tag = c .before .before .before .before .before .before .tag-at in
+    let turn = c .before .before .before .before .before .before .before .before .before .before .before in
+    let line = cluster-line turn (c .before .before .before .before .before .before .before .before .before .entry3 .given .1) in
+    let tag = c .before .before .before .before .before .before .tag-of in
     let earlier = c .before .before .before .before .before .loop2 .j in
     let taken = tag-is-taken _ _ _ earlier (c .before .before .before .before .loop2-test .taken) (sym (c .before .before .same-tag .ensures) ∙ c .before .if1 .taken) in
     let left = left-repeated (text turn) (at turn) (number turn) (records turn) (end turn) (running turn) (ended turn) _ _ _ _ line (tag .result) (tag .ensures) taken in
@@ -218,20 +219,20 @@ loop2-again : tie.Need-loop2-again Inv-loop2 μ-loop2 Inv-loop μ-loop
 loop2-again c = (search needs, every-more _ _ (c .before .before .before .before .loop2 .inv .1) (ap not (sym (c .before .same-tag .ensures) ∙ c .if1 .left)))
 
 mul-cluster : tie.Need-mul-cluster Inv-loop2 μ-loop2 Inv-loop μ-loop
-mul-cluster c = omega (arith, cluster-room (c .before .before .before .before))
+mul-cluster c = omega (arith, cluster-room (c .before .before .before .before .before))
 
 element-set-from-cluster : tie.Need-element-set-from-cluster Inv-loop2 μ-loop2 Inv-loop μ-loop
-element-set-from-cluster c = omega (arith, cluster-room (c .before .before .before .before))
+element-set-from-cluster c = omega (arith, cluster-room (c .before .before .before .before .before))
 
 loop-less-2 : tie.Need-loop-less-2 Inv-loop2 μ-loop2 Inv-loop μ-loop
-loop-less-2 c = onward (c .before .before .before .before .before .before)
+loop-less-2 c = onward (c .before .before .before .before .before .before .before)
 
 loop-again-2 : tie.Need-loop-again-2 Inv-loop2 μ-loop2 Inv-loop μ-loop
 unfolding withCluster
 loop-again-2 c =
-    let turn = c .before .before .before .before .before .before in
-    let line = cluster-line turn (c .before .before .before .before .entry3 .given .1) in
-    let tag = c .before .before .tag-at in
+    let turn = c .before .before .before .before .before .before .before in
+    let line = cluster-line turn (c .before .before .before .before .before .entry3 .given .1) in
+    let tag = c .before .before .tag-of in
     let all : c .before .loop2 .j ≡ number turn - 2 = omega arith in
     let fresh = tag-not-taken _ _ _ (rw all at (c .before .loop2 .inv .1)) in
     let left = left-cluster (text turn) (at turn) (number turn) (records turn) (end turn) (running turn) (ended turn) _ _ _ _ line (tag .result) (tag .ensures) fresh in
@@ -292,8 +293,8 @@ returns-4 c =
 pub read-spec : {M : Type 1} → statement M
 read-spec =
     tie.close
-    (tie.spec Inv-loop2 μ-loop2 Inv-loop μ-loop no-site-requires loop-holds line-end-requires sub-line part-line-start part-line-end read-line-requires
-    add-next add-after enum-known-entry refused-requires returns enum-known-entry-2 loop-less loop-again enum-known-entry-3 tag-at-requires sub-i loop2-holds
+    (tie.spec Inv-loop2 μ-loop2 Inv-loop μ-loop no-site-requires loop-holds line-end-requires sub-line part-line-start part-line-end line-entry-requires
+    add-next add-after enum-known-entry refused-requires returns enum-known-entry-2 loop-less loop-again enum-known-entry-3 tag-of-requires sub-i loop2-holds
     mul-earlier element-copy-out-earlier same-tag-requires refused-requires-2 returns-2 add-j loop2-less loop2-again mul-cluster element-set-from-cluster
     loop-less-2 loop-again-2 enum-known-entry-4 sub-j wide-requires sub-j-2 mul-flow element-set-from-flow loop-less-3 loop-again-3 due-at-requires
     accepted-requires returns-3 refused-requires-3 returns-4)
