@@ -10,7 +10,9 @@ pub mod Prints
 pub mod LineAnswers
 -- laws of them, which the code and the theorems use
 pub mod TagLaws
+pub mod PrintLaws
 pub mod LinesLaws
 pub mod TableLaws
 pub mod ReadLaws
 pub mod LeftLaws
+pub mod Reached

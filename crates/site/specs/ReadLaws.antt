@@ -75,6 +75,7 @@ module _ (k n f : ℕ) (cs : List Cluster) (r : Row) where
   -- a header that passed the tests
   pub record HeaderIs (a b : ℕ) : Type 0 where
     pub kind : due k n f ≡ 1
+    pub first : k ≤ 1
     pub clusters : byteAt (r .chars) 2 ≡ a
     pub flows : byteAt (r .chars) 3 ≡ b
     pub fewClusters : a ≤ 64
@@ -88,13 +89,14 @@ module _ (k n f : ℕ) (cs : List Cluster) (r : Row) where
       let h = entry-record (Header a b) tt q in
       let t = lowest-none 0 (lineTests k n f r) (h .0) in
       elim (place k n f) [
-        | header _ d ↦
+        | header first d ↦
             let e : Header (byteAt l 2) (byteAt l 3) ≡ Header a b = rw d at (h .1) in
             let v = none-of (not (eqb (byteAt l 1) 1) ∷ not (between 1 64 (byteAt l 2)) ∷ ltb 128 (byteAt l 3) ∷ []) (rw d at (t .1 .1 .1 .0)) in
             let c : byteAt l 2 ≡ a = cc in
             let w : byteAt l 3 ≡ b = cc in
             record {
               kind = d;
+              first = first;
               clusters = c;
               flows = w;
               fewClusters = omega (arith, between-true 1 64 (byteAt l 2) (not-false (between 1 64 (byteAt l 2)) (v .1 .0)));

@@ -1,6 +1,7 @@
 // Sites (docs/FORMATS.md, "Site text", "Refusal numbers"): the records, the line reader and the
 // reader of a whole text.
 mod line;
+mod prints;
 mod reader;
 mod tags;
 

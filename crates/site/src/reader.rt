@@ -8,6 +8,8 @@ use crate::Tag;
 use crate::Verdict;
 use crate::line::due_at;
 use crate::line::line_entry;
+use crate::prints::first_alike;
+use crate::prints::print_of;
 use crate::tags::same_tag;
 use crate::tags::tag_of;
 use model::wide;
@@ -68,6 +70,7 @@ pub fn read(text: &[u8]) -> Reading
     ensures { λ r. ⌜ r ≡ readText (now (text .entry)) ⌝ }
 {
     let mut site = no_site();
+    let mut prints = [0u32; 64];
     let mut at: usize = 0;
     let mut k: usize = 1;
     while at < text.len() {
@@ -99,8 +102,10 @@ pub fn read(text: &[u8]) -> Reading
                 len,
             } => {
                 let tag = tag_of(line, &bytes, len);
+                let spelled = tag.bytes;
+                let print = print_of(&spelled);
                 let i = k - 2;
-                let mut j: usize = 0;
+                let mut j = first_alike(&prints, i, print);
                 while j < i {
                     let earlier = site.clusters[j];
                     if same_tag(earlier.tag, tag) {
@@ -110,6 +115,7 @@ pub fn read(text: &[u8]) -> Reading
                 }
                 let cluster = Cluster { parent, order, tag };
                 site.clusters[i] = cluster;
+                prints[i] = print;
                 k = next;
                 at = after;
             }
