@@ -1,5 +1,5 @@
 -- What the contracts cite (docs/FORMATS.md, "The plan that is returned"). A number for each cluster says how much holds it back, and the cluster that comes next, the lowest
--- number with all required predecessors placed, is the first that nothing holds back.
+-- number with all required predecessors placed, is the first that nothing holds back. It is the lowest of a set, which the code keeps beside the numbers.
 use mathlib.Core.Path.{_≡_}
 use mathlib.Core.Bool.{Bool, true, false, not, _&&_}
 use mathlib.Core.List.{List, []}
@@ -8,8 +8,7 @@ use lib.Dec.{leb, ltb, eqb}
 use lib.ListN.{length, take, drop}
 use Rattle.model.specs.Counting.{at, bit, member, sumBelow}
 use Rattle.model.specs.Sequences.{isParent, nextOnes}
-use Rattle.sequence.specs.declared.Next.{Next}
-use Rattle.sequence.specs.declared.Next.the-variants.{At, Nothing}
+use Rattle.sequence.specs.Sets.{bitAt}
 
 -- a parent and a count for each of at most 64 clusters
 pub record Sized (parents counts : List ℕ) : Type 0 where
@@ -51,10 +50,27 @@ pub record Held (size : ℕ) (parent N : ℕ → ℕ) (placed held : List ℕ) :
   pub room : length held ≡ 64
   pub each : (c : ℕ) → c < size → at held c ≡ holding size parent N placed c
 
--- the lowest-numbered cluster that nothing holds back, or that there is none
-abbrev pub LowestFree : ℕ → List ℕ → Next → Type 0
-LowestFree size held (At x) = (x < size) × (at held x ≡ 0) × ((c : ℕ) → c < x → at held c ≡ 0 → ⊥)
-LowestFree size held Nothing = (c : ℕ) → c < size → at held c ≡ 0 → ⊥
+-- x is the lowest-numbered cluster that nothing holds back
+abbrev pub LowestFree : ℕ → List ℕ → ℕ → Type 0
+LowestFree size held x = (x < size) × (at held x ≡ 0) × ((c : ℕ) → c < x → at held c ≡ 0 → ⊥)
+
+-- there is none
+abbrev pub NoneFree : ℕ → List ℕ → Type 0
+NoneFree size held = (c : ℕ) → c < size → at held c ≡ 0 → ⊥
+
+-- the set of the clusters that nothing holds back
+pub record Marked (size : ℕ) (held : List ℕ) (free : ℕ) : Type 0 where
+  pub room : length held ≡ 64
+  pub each : (c : ℕ) → c < 64 → bitAt free c ≡ bit (ltb c size && eqb (at held c) 0)
+
+-- for each cluster the set of its children that come after it
+pub record Following (size : ℕ) (parent N : ℕ → ℕ) (sets : List ℕ) : Type 0 where
+  pub room : length sets ≡ 64
+  pub each : (p c : ℕ) → p < size → c < 64 → bitAt (at sets p) c ≡ bit (ltb c size && parentFirst parent N p c)
+
+-- a set of clusters has no other numbers
+abbrev pub Within : ℕ → ℕ → Type 0
+Within size mask = (c : ℕ) → size ≤ c → c < 64 → bitAt mask c ≡ 0
 
 -- the entry of each cluster counts what it is to be lowered by
 pub record Lowerable (size : ℕ) (by : ℕ → ℕ) (held : List ℕ) : Type 0 where
@@ -65,18 +81,6 @@ pub record Lowerable (size : ℕ) (by : ℕ → ℕ) (held : List ℕ) : Type 0 
 pub record Lowered (size : ℕ) (by : ℕ → ℕ) (earlier later : List ℕ) : Type 0 where
   pub room : length later ≡ 64
   pub each : (c : ℕ) → c < size → at later c + by c ≡ at earlier c
-
--- nothing holds x back, and x is counted wherever it holds another back
-pub record Releasing (size : ℕ) (parent N : ℕ → ℕ) (x : ℕ) (held : List ℕ) : Type 0 where
-  pub room : length held ≡ 64
-  pub there : x < size
-  pub free : at held x ≡ 0
-  pub counted : (c : ℕ) → c < size → holds parent N x c ≤ at held c
-
--- x is placed: it no longer holds others back, and from now on itself
-pub record Released (size : ℕ) (parent N : ℕ → ℕ) (x : ℕ) (earlier later : List ℕ) : Type 0 where
-  pub room : length later ≡ 64
-  pub each : (c : ℕ) → c < size → at later c + holds parent N x c ≡ at earlier c + bit (eqb c x)
 
 -- the clusters in order of start
 abbrev pub inOrder : ℕ → (ℕ → ℕ) → (ℕ → ℕ) → List ℕ

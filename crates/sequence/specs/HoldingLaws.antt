@@ -2,85 +2,77 @@
 use mathlib.Core.Path.{_≡_, refl, sym, ap, _∙_}
 use mathlib.Core.Bool.{Bool, true, false, not, _&&_, and-false, true≢false}
 use mathlib.Core.List.{List, _∷_}
-use mathlib.Core.Logic.{inl, inr, _≢_}
+use mathlib.Core.Logic.{_⊎_, inl, inr}
 use mathlib.Core.Option.{Option, none, some}
 use Prim.Native.Nat.{ℕ, _+_, _-_, _≤_, _<_}
 use native.Mathlib.Omega.{arith}
-use lib.Dec.{leb, ltb, eqb}
+use lib.Dec.{leb, eqb}
 use lib.ListN.{length, set, length-set}
 use lib.Seq.{getD-set-same, getD-set-other}
-use mir.Val.{boolByte}
-use borrow.Author.Count.{below-more}
-use borrow.Author.Tests.{ltb-false, lt-ltb, eqb-true, eqb-false, eq-eqb, ne-eqb, not-true}
+use borrow.Author.Tests.{leb-true, lt-ltb, le-leb, lt-leb, eqb-true, eqb-false, eq-eqb, ne-eqb, not-true}
 use Rattle.model.specs.Counting.{at, bit, member, leastWhere}
 use Rattle.model.specs.CountingLaws.{passes-or-fails, and-both, Lowest, lowest-is, lowest-found}
 use Rattle.model.specs.Sequences.{ready, next}
-use Rattle.sequence.specs.declared.Next.the-variants.{At, Nothing}
-use Rattle.sequence.specs.Holding.{parentFirst, childFirst, holds, waiting, holding, Held, LowestFree, Lowered, Releasing, Released}
+use Rattle.sequence.specs.Holding.{parentFirst, childFirst, holds, waiting, holding, Held, LowestFree, NoneFree, Lowered}
 use Rattle.sequence.specs.WaitingLaws.{none-waited-for, ready-waits-for-none, waiting-falls}
 
--- ## What x holds back
+-- ## Lowering
 
--- a test kept in a byte
-byte-of-bit : (b : Bool) → boolByte b ≡ bit b
-byte-of-bit true = refl
-byte-of-bit false = refl
+-- nothing holds x back, and x is counted wherever it holds another back
+pub record Releasing (size : ℕ) (parent N : ℕ → ℕ) (x : ℕ) (held : List ℕ) : Type 0 where
+  pub room : length held ≡ 64
+  pub there : x < size
+  pub free : at held x ≡ 0
+  pub counted : (c : ℕ) → c < size → holds parent N x c ≤ at held c
 
-module _ (parent N : ℕ → ℕ) (x : ℕ) where
-  -- a cluster other than the root, as its parent
-  pub as-parent : (c : ℕ) → 0 < c → boolByte (eqb (parent c) x && ltb (N x) (N c)) ≡ bit (parentFirst parent N x c)
-  as-parent c h = rw (lt-ltb 0 c h) (byte-of-bit (eqb (parent c) x && ltb (N x) (N c)))
-
-  -- its parent, as a child
-  pub as-child : 0 < x → boolByte (leb (N x) (N (parent x))) ≡ bit (childFirst parent N x (parent x))
-  as-child h = rw (lt-ltb 0 x h, eq-eqb (parent x) (parent x) refl) (byte-of-bit (leb (N x) (N (parent x))))
-
-  -- and no other so
-  pub child-of-one : (c : ℕ) → c ≢ parent x → bit (childFirst parent N x c) ≡ 0
-  child-of-one c h = rw (ne-eqb (parent x) c (λ e. h (sym e))) (simp and-false)
-
-  -- none so where it is the root or its parent is no cluster
-  pub child-of-none : (size : ℕ) → ltb 0 x && ltb (parent x) size ≡ false → (c : ℕ) → c < size → bit (childFirst parent N x c) ≡ 0
-  child-of-none size h c l = elim (passes-or-fails (ltb 0 x)) [
-    | inl e ↦ let far = ltb-false (parent x) size (rw e at h) in child-of-one c (λ q. omega arith)
-    | inr e ↦ rw e
-  ]
-
--- ## Lowering, cluster by cluster
-
--- those below c are lowered, the others not yet
-pub record LoweredBelow (by : ℕ → ℕ) (c : ℕ) (earlier later : List ℕ) : Type 0 where
+-- x is placed: it no longer holds others back, and from now on itself
+pub record Released (size : ℕ) (parent N : ℕ → ℕ) (x : ℕ) (earlier later : List ℕ) : Type 0 where
   pub room : length later ≡ 64
-  pub below : (j : ℕ) → j < c → at later j + by j ≡ at earlier j
-  pub left : (j : ℕ) → c ≤ j → at later j ≡ at earlier j
-
-module _ (by : ℕ → ℕ) (earlier later : List ℕ) where
-  pub lowered-more : (c r : ℕ) → c < 64 → r ≡ by c → r ≤ at later c → LoweredBelow by c earlier later → LoweredBelow by (c + 1) earlier (set later c (at later c - r))
-  lowered-more c r h e m w = record {
-    room = length-set later c (at later c - r) ∙ w .room;
-    below = below-more _ c
-        (λ j i. omega (arith, getD-set-other later c j (at later c - r) 0 (λ q. omega arith), w .below j i))
-        (omega (arith, getD-set-same later c (at later c - r) 0 (omega (arith, w .room)), w .left c (omega arith)));
-    left = λ j i. getD-set-other later c j (at later c - r) 0 (λ q. omega arith) ∙ w .left j (omega arith);
-  }
-
-  pub lowered-all : (size c : ℕ) → size ≤ c → LoweredBelow by c earlier later → Lowered size by earlier later
-  lowered-all size c h w = record { room = w .room; each = λ j i. w .below j (omega arith) }
+  pub each : (c : ℕ) → c < size → at later c + holds parent N x c ≡ at earlier c + bit (eqb c x)
 
 module _ (size : ℕ) (by : ℕ → ℕ) (held : List ℕ) (room : length held ≡ 64) where
   -- none is to be lowered
   pub lowered-none : ((c : ℕ) → c < size → by c ≡ 0) → Lowered size by held held
   lowered-none z = record { room = room; each = λ c l. omega (arith, z c l) }
 
-  -- only p is
-  pub lowered-one : (p r : ℕ) → p < 64 → r ≡ by p → r ≤ at held p → ((c : ℕ) → c ≢ p → by c ≡ 0) → Lowered size by held (set held p (at held p - r))
-  lowered-one p r h e m z = record {
-    room = length-set held p (at held p - r) ∙ room;
-    each = λ c l. elim (passes-or-fails (eqb c p)) [
-      | inl q ↦ rw (eqb-true c p q) (omega (arith, getD-set-same held p (at held p - r) 0 (omega arith)))
-      | inr q ↦ omega (arith, getD-set-other held p c (at held p - r) 0 (eqb-false c p q), z c (eqb-false c p q))
-    ];
-  }
+-- only p is, by one
+pub lowered-one : (size : ℕ) (held : List ℕ) (p : ℕ) → length held ≡ 64 → p < 64 → 0 < at held p → Lowered size (λ c. bit (eqb c p)) held (set held p (at held p - 1))
+lowered-one size held p room h m = record {
+  room = length-set held p (at held p - 1) ∙ room;
+  each = λ c l. elim (passes-or-fails (eqb c p)) [
+    | inl q ↦ rw (q, eqb-true c p q) (omega (arith, getD-set-same held p (at held p - 1) 0 (omega arith)))
+    | inr q ↦ rw q (omega (arith, getD-set-other held p c (at held p - 1) 0 (eqb-false c p q)))
+  ];
+}
+
+pub lowered-alike : (size : ℕ) (f g : ℕ → ℕ) (earlier later : List ℕ) → ((c : ℕ) → c < size → f c ≡ g c) → Lowered size f earlier later → Lowered size g earlier later
+lowered-alike size f g earlier later e w = record { room = w .room; each = λ c l. omega (arith, e c l, w .each c l) }
+
+-- ## A child and its parent
+
+module _ (parent N : ℕ → ℕ) (x : ℕ) where
+  -- none waits for x as its child where x is the root or its parent is no cluster
+  pub child-of-none : (size : ℕ) → (eqb x 0 ≡ true) ⊎ (leb size (parent x) ≡ true) → (c : ℕ) → c < size → bit (childFirst parent N x c) ≡ 0
+  child-of-none size (inl e) c l = rw (eqb-true x 0 e)
+  child-of-none size (inr e) c l = let far = leb-true size (parent x) e in rw (ne-eqb (parent x) c (λ q. omega arith)) (simp and-false)
+
+  -- nor where its parent comes before it
+  pub child-after : N (parent x) < N x → (c : ℕ) → bit (childFirst parent N x c) ≡ 0
+  child-after h c = elim (passes-or-fails (eqb (parent x) c)) [
+    | inl e ↦ rw (← eqb-true (parent x) c e, lt-leb (N x) (N (parent x)) h) (simp and-false)
+    | inr e ↦ rw e (simp and-false)
+  ]
+
+  -- else its parent does, and no other
+  pub child-before : 0 < x → N x ≤ N (parent x) → (c : ℕ) → bit (eqb c (parent x)) ≡ bit (childFirst parent N x c)
+  child-before h l c = elim (passes-or-fails (eqb c (parent x))) [
+    | inl e ↦ rw (eqb-true c (parent x) e, eq-eqb (parent x) (parent x) refl, lt-ltb 0 x h, le-leb (N x) (N (parent x)) l)
+    | inr e ↦ rw (e, ne-eqb (parent x) c (λ q. eqb-false c (parent x) e (sym q))) (simp and-false)
+  ]
+
+  -- and a number that counts x is above 0
+  pub child-counted : 0 < x → N x ≤ N (parent x) → (n : ℕ) → bit (childFirst parent N x (parent x)) ≤ n → 0 < n
+  child-counted h l n m = let same : bit (eqb (parent x) (parent x)) ≡ 1 = ap bit (eq-eqb (parent x) (parent x) refl) in omega (arith, child-before h l (parent x))
 
 -- x is marked, once those that it held back as their parent and as their child are lowered
 pub released-all : (size : ℕ) (parent N : ℕ → ℕ) (x : ℕ) (earlier middle later : List ℕ) → x < 64
@@ -126,12 +118,12 @@ module _ (size : ℕ) (parent N : ℕ → ℕ) (placed held : List ℕ) (h : Hel
     | inr t ↦ t
   ]
 
-  pub free-comes-next : (x : ℕ) → LowestFree size held (At x) → next size parent N placed ≡ some x
+  pub free-comes-next : (x : ℕ) → LowestFree size held x → next size parent N placed ≡ some x
   unfolding next
   free-comes-next x f =
       lowest-found candidate size x (f .0) (free-is-candidate x (f .0) (f .1)) (λ c l. held-is-no-candidate c (omega (arith, f .0)) (f .2 c l))
 
-  pub none-comes-next : LowestFree size held Nothing → next size parent N placed ≡ none
+  pub none-comes-next : NoneFree size held → next size parent N placed ≡ none
   unfolding next
   none-comes-next f = no-other (leastWhere candidate 0 size) (lowest-is candidate 0 size)
     where
@@ -139,7 +131,7 @@ module _ (size : ℕ) (parent N : ℕ → ℕ) (placed held : List ℕ) (h : Hel
       no-other none k = refl
       no-other (some c) k = absurd (true≢false (sym (k .2) ∙ held-is-no-candidate c (omega (arith, k .1)) (f c (omega (arith, k .1)))))
 
-  module _ (x : ℕ) (f : LowestFree size held (At x)) where
+  module _ (x : ℕ) (f : LowestFree size held x) where
     falls : (c : ℕ) → waiting size parent N (x ∷ placed) c + holds parent N x c ≡ waiting size parent N placed c
     falls c = waiting-falls size parent N c placed x (f .0) (free-is-fresh x (f .0) (f .1))
 

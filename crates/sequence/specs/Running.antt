@@ -8,9 +8,8 @@ use lib.ListN.{length, take, drop, set, length-set, take-append-drop}
 use lib.Seq.{take-suc-set, drop-set-lt, length-take-le, drop-drop}
 use Rattle.model.specs.Sequences.{nextOnes}
 use Rattle.model.specs.SequenceLaws.{next-comes-first}
-use Rattle.sequence.specs.declared.Next.the-variants.{At, Nothing}
-use Rattle.sequence.specs.Holding.{Held, LowestFree, Released, inOrder, Sequenced}
-use Rattle.sequence.specs.HoldingLaws.{free-comes-next, none-comes-next, released-holds}
+use Rattle.sequence.specs.Holding.{Held, LowestFree, NoneFree, inOrder, Sequenced}
+use Rattle.sequence.specs.HoldingLaws.{Released, free-comes-next, none-comes-next, released-holds}
 
 module _ (size : ℕ) (parent N : ℕ → ℕ) (earlier : List ℕ) where
   -- the first k clusters stand in the room, `held` says what holds each cluster back after them, and the others follow
@@ -29,7 +28,7 @@ module _ (size : ℕ) (parent N : ℕ → ℕ) (earlier : List ℕ) where
     abbrev placed : List ℕ
     placed = reverse (take k room)
 
-    pub running-on : (x : ℕ) (later : List ℕ) → k < size → LowestFree size held (At x) → Released size parent N x held later → Running (k + 1) (set room k x) later
+    pub running-on : (x : ℕ) (later : List ℕ) → k < size → LowestFree size held x → Released size parent N x held later → Running (k + 1) (set room k x) later
     running-on x later l f r = record {
       within = omega arith;
       sized = length-set room k x ∙ w .sized;
@@ -57,7 +56,7 @@ module _ (size : ℕ) (parent N : ℕ → ℕ) (earlier : List ℕ) where
     unfolding nextOnes
     all-placed l = let none-more : size - k ≡ 0 = omega arith in none-left (ap (λ j. nextOnes size parent N j placed) none-more)
 
-    pub none-free : LowestFree size held Nothing → Sequenced size parent N earlier room k
+    pub none-free : NoneFree size held → Sequenced size parent N earlier room k
     unfolding nextOnes
     none-free f = none-left (none-follow (size - k))
       where
