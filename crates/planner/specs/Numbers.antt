@@ -5,6 +5,7 @@ use Prim.Native.Nat.{ℕ, _-_, _≤_, _<_}
 use lib.ListN.{length, take, getD, replicate}
 use Rattle.hexline.specs.Loops.{filled}
 use Rattle.model.specs.Counting.{at, values}
+use Rattle.model.specs.Orders.{shortest}
 use Rattle.model.specs.Trees.{Tree, depth, top}
 use Rattle.site.specs.declared.Cluster.{Cluster}
 use Rattle.site.specs.declared.Flow.{Flow}
@@ -15,17 +16,19 @@ use Rattle.planner.specs.declared.numbers.Flows.{Flows}
 abbrev pub parentsOf : List Cluster → ℕ → List ℕ
 parentsOf clusters n = filled (λ i. getD clusters i absent .parent) (replicate 64 0) n
 
--- arrays of 128 numbers that begin with the sources, the sinks and the deadlines of the first n flows
+-- the required periods of the first n flows
+unfoldable pub periodsOf : List Flow → ℕ → List ℕ
+periodsOf flows n = map (λ (f : Flow). f .period) (take n flows)
+
+-- arrays of 128 numbers that begin with the sources, the sinks and the deadlines of the first n flows, and the shortest of their periods, none being longer than
+-- 1,000,000,000
 abbrev pub flowsOf : List Flow → ℕ → Flows
 flowsOf flows n = record {
   sources = filled (λ i. getD flows i noFlow .source) (replicate 128 0) n;
   sinks = filled (λ i. getD flows i noFlow .sink) (replicate 128 0) n;
   deadlines = filled (λ i. getD flows i noFlow .deadline) (replicate 128 0) n;
+  shortest = shortest 1000000000 (periodsOf flows n);
 }
-
--- the required periods of the first n flows
-unfoldable pub periodsOf : List Flow → ℕ → List ℕ
-periodsOf flows n = map (λ (f : Flow). f .period) (take n flows)
 
 -- how far the path of flow i goes down: the depth of its sink less that of its top
 unfoldable pub descentAt : List ℕ → List ℕ → List ℕ → ℕ → ℕ

@@ -22,10 +22,10 @@ use Rattle.planner.proofs.numbers.figures_of.Tie as tie
 abbrev zeros : List ℕ
 zeros = replicate 64 0
 
--- once the parents are there
-module _ (c : tie.After-parents-of) where
+-- once the clusters' numbers are there
+module _ (c : tie.After-clusters-of) where
   abbrev start : tie.Start
-  start = c .before .before .before .before .before
+  start = c .before .before .before .before
 
   abbrev site : Site
   site = start .args .site
@@ -34,19 +34,19 @@ module _ (c : tie.After-parents-of) where
   described = siteOf site
 
   abbrev n : ℕ
-  n = c .before .before .before .before .wide .result
+  n = c .before .before .before .wide .result
 
   abbrev f : ℕ
-  f = c .before .before .before .wide2 .result
+  f = c .before .before .wide2 .result
 
   accepted : checked site ≡ Accepted
   accepted = start .pre
 
   n-is : n ≡ site .«cluster_count»
-  n-is = c .before .before .before .before .wide .ensures .0
+  n-is = c .before .before .before .wide .ensures .0
 
   f-is : f ≡ site .«flow_count»
-  f-is = c .before .before .before .wide2 .ensures .0
+  f-is = c .before .before .wide2 .ensures .0
 
   n-bounded : n ≤ 64
   n-bounded = omega (arith, n-is, counts-bounded site accepted .1)
@@ -54,19 +54,19 @@ module _ (c : tie.After-parents-of) where
   f-bounded : f ≤ 128
   f-bounded = omega (arith, f-is, counts-bounded site accepted .2)
 
-  parents-fit : n ≤ length (c .parents-of .result)
-  parents-fit = omega (arith, n-bounded, ap length (c .parents-of .ensures) ∙ filled-length _ (replicate 64 0) n)
+  parents-fit : n ≤ length (c .clusters-of .result .parents)
+  parents-fit = omega (arith, n-bounded, ap length (c .clusters-of .ensures .0) ∙ filled-length _ (replicate 64 0) n)
 
-  parents-number : length (take n (c .parents-of .result)) ≡ n
-  parents-number = length-take-le n (c .parents-of .result) parents-fit
+  parents-number : length (take n (c .clusters-of .result .parents)) ≡ n
+  parents-number = length-take-le n (c .clusters-of .result .parents) parents-fit
 
-  parents-here : take n (c .parents-of .result) ≡ described .parents
-  parents-here = parents-are site accepted n n-is _ (c .parents-of .ensures)
+  parents-here : take n (c .clusters-of .result .parents) ≡ described .parents
+  parents-here = parents-are site accepted n n-is _ (c .clusters-of .ensures .0)
 
 -- once the depths are there: they are the array's front
 module _ (c : tie.After-depths2) where
-  abbrev rooted : tie.After-parents-of
-  rooted = c .before .before .before
+  abbrev rooted : tie.After-clusters-of
+  rooted = c .before .before .before .before
 
   abbrev levels : List ℕ
   levels = c .depths2 .last .1 .0 ++ drop (n rooted) zeros
@@ -74,15 +74,15 @@ module _ (c : tie.After-depths2) where
   levels-fit : n rooted ≤ length levels
   levels-fit = omega (arith, n-bounded rooted, length-front zeros (c .depths2 .last .1 .0) (n rooted) (c .depths2 .kept .1 .0))
 
-  levels-are : take (n rooted) levels ≡ values (depth (at (take (n rooted) (rooted .parents-of .result)))) 0 (length (take (n rooted) (rooted .parents-of .result)))
+  levels-are : take (n rooted) levels ≡ values (depth (at (take (n rooted) (rooted .clusters-of .result .parents)))) 0 (length (take (n rooted) (rooted .clusters-of .result .parents)))
   levels-are = take-at (c .depths2 .last .1 .0) (drop (n rooted) zeros) (n rooted) (c .depths2 .kept .1 .0 ∙ length-take-le _ zeros (n-bounded rooted)) ∙ c .depths2 .ensures
 
 -- once the flows' numbers are there
 module _ (c : tie.After-flows-of) where
   abbrev deep : tie.After-depths2
-  deep = c .before .before .before .before
+  deep = c .before .before .before
 
-  abbrev first : tie.After-parents-of
+  abbrev first : tie.After-clusters-of
   first = rooted deep
 
   sources-fit : f first ≤ length (c .flows-of .result .sources)
@@ -106,43 +106,35 @@ wide-requires c κs = search needs
 wide-requires-2 : tie.Need-wide-requires-2
 wide-requires-2 c κs = search needs
 
-portions-of-requires : tie.Need-portions-of-requires
-portions-of-requires c κs =
+clusters-of-requires : tie.Need-clusters-of-requires
+clusters-of-requires c κs =
     let start = c .before .before .before in
     let count = c .before .before .wide .ensures .0 in
     (omega (arith, count, counts-bounded (start .args .site) (start .pre) .1), rw count (orders-bounded (start .args .site) (start .pre)))
 
-parents-of-requires : tie.Need-parents-of-requires
-parents-of-requires c κs =
-    let start = c .before .before .before .before in
-    omega (arith, counts-bounded (start .args .site) (start .pre) .1)
-
 array-share-prefix-parents : tie.Need-array-share-prefix-parents
-array-share-prefix-parents c = parents-fit c
+array-share-prefix-parents c = parents-fit (c .before)
 
 slice-aggregate-depths : tie.Need-slice-aggregate-depths
-slice-aggregate-depths c = sym (parents-number (c .before))
+slice-aggregate-depths c = sym (parents-number (c .before .before))
 
 array-borrow-prefix-depths : tie.Need-array-borrow-prefix-depths
-array-borrow-prefix-depths c = n-bounded (c .before)
+array-borrow-prefix-depths c = n-bounded (c .before .before)
 
 slice-aggregate-depths-2 : tie.Need-slice-aggregate-depths-2
-slice-aggregate-depths-2 c = sym (length-take-le _ zeros (n-bounded (c .before .before)))
+slice-aggregate-depths-2 c = sym (length-take-le _ zeros (n-bounded (c .before .before .before)))
 
 depths-requires : tie.Need-depths-requires
 depths-requires c κs =
-    let first = c .before .before in
+    let first = c .before .before .before in
     let number = parents-number first in (
       omega (arith, number, n-bounded first),
       length-take-le _ zeros (n-bounded first) ∙ sym number,
       rw (parents-here first) (describes-sound (site first) (accepted first) .tree),
     )
 
-shortest-period-requires : tie.Need-shortest-period-requires
-shortest-period-requires c κs = omega (arith, f-bounded (rooted (c .before .before)))
-
 flows-of-requires : tie.Need-flows-of-requires
-flows-of-requires c κs = omega (arith, f-bounded (rooted (c .before .before .before)))
+flows-of-requires c κs = omega (arith, f-bounded (rooted (c .before .before)))
 
 array-share-prefix-parents-2 : tie.Need-array-share-prefix-parents-2
 array-share-prefix-parents-2 c = parents-fit (first (c .before .before .before))
@@ -193,8 +185,8 @@ returns c =
       sinks-are = sinks-here flows;
       descents-are = descents-are site accepted (f first) (f-is first) _ _ _ _ (parents-here first) (sources-here flows) (sinks-here flows) (c .descents-of .ensures);
       deadlines-are = deadlines-here flows;
-      permits = permits-alike site accepted (f first) (f-is first) _ (flows .before .shortest-period .ensures);
-      sums = total-is site accepted (n first) (n-is first) _ (first .before .portions-of .ensures);
+      permits = permits-alike site accepted (f first) (f-is first) _ (ap (λ r. r .shortest) (flows .flows-of .ensures));
+      sums = total-is site accepted (n first) (n-is first) _ (first .clusters-of .ensures .1);
     }
 
 pub figures-of-spec : {M : Type 1} → statement M
@@ -203,14 +195,12 @@ figures-of-spec =
     (tie.spec
     wide-requires
     wide-requires-2
-    portions-of-requires
-    parents-of-requires
+    clusters-of-requires
     array-share-prefix-parents
     slice-aggregate-depths
     array-borrow-prefix-depths
     slice-aggregate-depths-2
     depths-requires
-    shortest-period-requires
     flows-of-requires
     array-share-prefix-parents-2
     slice-aggregate-descents-of

@@ -1,22 +1,25 @@
--- `planner::numbers::portions_of` meets its contract. The invariant: the sum so far is that of the portions before `i`, each at most 15,728,640.
+-- `planner::numbers::clusters_of` meets its contract. The invariant: the parents of the clusters before `i` are filled in, and the total is the sum of their portions,
+-- each at most 15,728,640.
 use mathlib.Core.Path.{_≡_, refl, ap, _∙_}
 use Prim.Native.Nat.{ℕ, _*_, _-_, _≤_}
 use native.Mathlib.Omega.{arith}
 use lib.ListN.{getD}
+use Rattle.hexline.specs.Loops.{filled, filled-next}
 use Rattle.model.specs.Counting.{sumBelow}
 use Rattle.model.specs.Orders.{largest, portion, lengthAt}
 use Rattle.model.specs.OrderLaws.{order-has-length, symbols-bounded}
 use Rattle.site.specs.Records.{absent}
+use Rattle.planner.specs.Numbers.{parentsOf}
 use Rattle.planner.specs.NumberLaws.{sum-next}
 use borrow.Author.Needs.{needs}
-use Rattle.planner.proofs.numbers.portions_of.Statement.{statement}
-use Rattle.planner.proofs.numbers.portions_of.Tie as tie
+use Rattle.planner.proofs.numbers.clusters_of.Statement.{statement}
+use Rattle.planner.proofs.numbers.clusters_of.Tie as tie
 
 abbrev Inv-loop : tie.InvT-loop
-Inv-loop n clusters sum₀ i₀ sum i = (i ≤ n) × (sum ≡ sumBelow i (λ k. portion (getD clusters k absent .order))) × (sum ≤ 15728640 * i)
+Inv-loop n clusters parents₀ total₀ i₀ parents total i = (i ≤ n) × (parents ≡ parentsOf clusters i) × (total ≡ sumBelow i (λ k. portion (getD clusters k absent .order))) × (total ≤ 15728640 * i)
 
 abbrev μ-loop : tie.MeasureT-loop
-μ-loop n clusters sum₀ i₀ sum i = n - i
+μ-loop n clusters parents₀ total₀ i₀ parents total i = n - i
 
 module _ (c : tie.After-portion Inv-loop μ-loop) where
   abbrev was : tie.At-loop Inv-loop μ-loop
@@ -35,8 +38,8 @@ module _ (c : tie.After-portion Inv-loop μ-loop) where
   portion-bounded = omega (arith, portion-here, symbols-bounded is-order)
 
 loop-holds : tie.Need-loop-holds Inv-loop μ-loop
-unfolding sumBelow
-loop-holds c = (search needs, refl, search needs)
+unfolding filled sumBelow
+loop-holds c = (search needs, refl, refl, search needs)
 
 mul-cluster : tie.Need-mul-cluster Inv-loop μ-loop
 mul-cluster c = search needs
@@ -44,14 +47,17 @@ mul-cluster c = search needs
 array-copy-out-cluster : tie.Need-array-copy-out-cluster Inv-loop μ-loop
 array-copy-out-cluster c = search needs
 
+array-write-parents : tie.Need-array-write-parents Inv-loop μ-loop
+array-write-parents c = search needs
+
 new-requires : tie.Need-new-requires Inv-loop μ-loop
 new-requires c κs = search needs
 
 portion-requires : tie.Need-portion-requires Inv-loop μ-loop
 portion-requires c κs = search needs
 
-add-sum : tie.Need-add-sum Inv-loop μ-loop
-add-sum c = omega (arith, portion-bounded c)
+add-total : tie.Need-add-total Inv-loop μ-loop
+add-total c = omega (arith, portion-bounded c)
 
 add-i : tie.Need-add-i Inv-loop μ-loop
 add-i c = search needs
@@ -61,14 +67,21 @@ loop-less c = search needs
 
 loop-again : tie.Need-loop-again Inv-loop μ-loop
 loop-again c =
-    let was = c .before .before .before .before in
-    (search needs, omega (arith, portion-here c, sum-next (λ k. portion (getD (was .before .args .t1) k absent .order)) (was .loop .i)), omega (arith, portion-bounded c))
+    let was = c .before .before .before .before in (
+      search needs,
+      filled-next _ _ _ _ _ (was .loop .inv .1) refl,
+      omega (arith, portion-here c, sum-next (λ k. portion (getD (was .before .args .t1) k absent .order)) (was .loop .i)),
+      omega (arith, portion-bounded c),
+    )
 
 returns : tie.Need-returns Inv-loop μ-loop
-returns c = let all : c .before .loop .i ≡ c .before .before .args .n = omega arith in c .before .loop .inv .1 ∙ ap (λ (k : ℕ). sumBelow k (λ j. portion (getD (c .before .before .args .t1) j absent .order))) all
+returns c =
+    let all : c .before .loop .i ≡ c .before .before .args .n = omega arith in
+    let inv = c .before .loop .inv in
+    (inv .1 ∙ ap (filled _ _) all, inv .2 ∙ ap (λ (k : ℕ). sumBelow k (λ j. portion (getD (c .before .before .args .t1) j absent .order))) all)
 
-pub portions-of-spec : {M : Type 1} → statement M
-portions-of-spec =
+pub clusters-of-spec : {M : Type 1} → statement M
+clusters-of-spec =
     tie.close
     (tie.spec
     Inv-loop
@@ -76,9 +89,10 @@ portions-of-spec =
     loop-holds
     mul-cluster
     array-copy-out-cluster
+    array-write-parents
     new-requires
     portion-requires
-    add-sum
+    add-total
     add-i
     loop-less
     loop-again
