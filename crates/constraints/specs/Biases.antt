@@ -8,9 +8,10 @@ use native.Mathlib.Omega.{arith}
 use lib.Dec.{leb}
 use lib.ListN.{set}
 use borrow.Author.Tests.{leb-true, leb-false}
-use Rattle.model.specs.Constraints.{Constraint, risesOnce, neverFalls, treeConstraints, descent, flowConstraint, flowConstraints, constraints}
+use Rattle.model.specs.ConstraintLaws.{tree-each}
+use Rattle.model.specs.Constraints.{Constraint, treeConstraints, descent, flowConstraint, flowConstraints, constraints}
 use Rattle.model.specs.Counting.{Each, at}
-use Rattle.model.specs.CountingLaws.{passes-or-fails, each-imply, each-map, each-append}
+use Rattle.model.specs.CountingLaws.{passes-or-fails, each-imply, each-map, each-append, map-values, map-falling}
 use Rattle.model.specs.Orders.{interval}
 use Rattle.model.specs.Relaxing.{okay, allOkay, relax, round, settledWithin}
 use Rattle.model.specs.RelaxingLaws.{okay-if, broken-if, relax-keeps, relax-lowers, relax-refuses, settle-ends}
@@ -74,11 +75,6 @@ settle-biased (suc rounds) ks d h = elim (passes-or-fails (allOkay ks d)) [
 
 -- ## The bias covers the debits of a site
 
-tree-covered : (parent : ℕ → ℕ) (c k : ℕ) → Each Covered (treeConstraints parent c k)
-unfolding treeConstraints
-tree-covered parent c zero = tt
-tree-covered parent c (suc k) = (omega arith, (omega arith, tree-covered parent (suc c) k))
-
 module _ (s : Site) (sound : Sound s) (few : size s ≤ bias) where
   pub descent-shallow : (f : Flow) → f .sink < size s → descent s f ≤ 63
   unfolding descent
@@ -88,17 +84,16 @@ module _ (s : Site) (sound : Sound s) (few : size s ≤ bias) where
   unfolding constraints
   constraints-covered order = each-append
       Covered
-      (treeConstraints (parent s) 1 (size s - 1))
       (flowConstraints s order)
-      (tree-covered (parent s) 1 (size s - 1))
+      (treeConstraints (parent s) (size s - 1))
       (each-map (flowConstraint s order) Covered (s .flows) (each-imply (s .flows) (λ f e. omega (arith, descent-shallow f (e .1))) (sound .ends)))
+      (tree-each (parent s) (size s - 1) Covered (λ c a b. (omega arith, omega arith)))
 
 -- ## The entries of a site say its constraints
 
-tree-entries-say : (parent : ℕ → ℕ) (c k : ℕ) → map meaning (treeEntries parent c k) ≡ map biased (treeConstraints parent c k)
+tree-entries-say : (parent : ℕ → ℕ) (k : ℕ) → map meaning (treeEntries parent k) ≡ map biased (treeConstraints parent k)
 unfolding treeEntries treeConstraints
-tree-entries-say parent c zero = refl
-tree-entries-say parent c (suc k) = ap (λ ks. biased (risesOnce parent c) ∷ (biased (neverFalls parent c) ∷ ks)) (tree-entries-say parent (suc c) k)
+tree-entries-say parent k = simp (map-append, map-falling, map-values)
 
 module _ (s : Site) (order : ℕ) where
   abbrev entries : List Flow → List Entry
@@ -109,10 +104,10 @@ module _ (s : Site) (order : ℕ) where
   flow-entries-say [] = refl
   flow-entries-say (f ∷ fs) = ap (λ ks. biased (flowConstraint s order f) ∷ ks) (flow-entries-say fs)
 
-  pub site-entries-say : map meaning (treeEntries (parent s) 1 (size s - 1) ++ entries (s .flows)) ≡ map biased (constraints s order)
+  pub site-entries-say : map meaning (entries (s .flows) ++ treeEntries (parent s) (size s - 1)) ≡ map biased (constraints s order)
   unfolding constraints
-  site-entries-say = let tree = treeConstraints (parent s) 1 (size s - 1) in
-      map-append meaning (treeEntries (parent s) 1 (size s - 1)) (entries (s .flows))
-      ∙ ap (λ ks. ks ++ map meaning (entries (s .flows))) (tree-entries-say (parent s) 1 (size s - 1))
-      ∙ ap (λ ks. map biased tree ++ ks) (flow-entries-say (s .flows))
-      ∙ sym (map-append biased tree (flowConstraints s order))
+  site-entries-say = let flows = flowConstraints s order in
+      map-append meaning (entries (s .flows)) (treeEntries (parent s) (size s - 1))
+      ∙ ap (λ ks. ks ++ map meaning (treeEntries (parent s) (size s - 1))) (flow-entries-say (s .flows))
+      ∙ ap (λ ks. map biased flows ++ ks) (tree-entries-say (parent s) (size s - 1))
+      ∙ sym (map-append biased flows (treeConstraints (parent s) (size s - 1)))

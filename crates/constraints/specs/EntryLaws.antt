@@ -1,21 +1,26 @@
 -- Laws of the list of entries: how many there are and which stands at a place. And the limits that it is made with, one after another.
 use mathlib.Core.Path.{_≡_, refl, sym, ap, _∙_}
 use mathlib.Core.List.{List, [], _∷_, _++_}
-use Prim.Native.Nat.{ℕ, zero, suc, _+_, _-_, _*_, _/_, _%_, _<_}
+use Prim.Native.Nat.{ℕ, zero, suc, _+_, _-_, _*_, _/_, _≤_, _<_}
 use native.Mathlib.Numerals.{add-one}
 use native.Mathlib.Omega.{arith}
 use lib.ListN.{length, getD, set, take, length-append, List·getD-append}
 use lib.Seq.{getD-append-add, take-suc, take-suc-set}
-use Rattle.model.specs.Counting.{at}
+use Rattle.model.specs.Counting.{at, values, falling}
+use Rattle.model.specs.CountingLaws.{values-length, falling-length, values-getD, falling-getD}
 use Rattle.model.specs.CrossingLaws.{allowed-divides}
-use Rattle.constraints.specs.Entries.{bias, entry, blank, treeEntries, flowEntries, siteEntries, limitsOf}
+use Rattle.constraints.specs.Entries.{bias, entry, blank, upward, downward, treeEntries, flowEntries, siteEntries, limitsOf}
 
 -- ## How many there are
 
-tree-entries-length : (parent : ℕ → ℕ) (c k : ℕ) → length (treeEntries parent c k) ≡ 2 * k
+tree-entries-length : (parent : ℕ → ℕ) (k : ℕ) → length (treeEntries parent k) ≡ 2 * k
 unfolding treeEntries
-tree-entries-length parent c zero = refl
-tree-entries-length parent c (suc k) = omega (arith, tree-entries-length parent (suc c) k)
+tree-entries-length parent k = omega (
+  arith,
+  length-append (falling (upward parent) k) (values (downward parent) 1 k),
+  falling-length (upward parent) k,
+  values-length (downward parent) 1 k,
+)
 
 flow-entries-length : (ss ts ls : List ℕ) → length ts ≡ length ss → length ls ≡ length ss → length (flowEntries ss ts ls) ≡ length ss
 unfolding flowEntries
@@ -24,34 +29,26 @@ flow-entries-length (s ∷ ss) [] ls a b = omega arith
 flow-entries-length (s ∷ ss) (t ∷ ts) [] a b = omega arith
 flow-entries-length (s ∷ ss) (t ∷ ts) (l ∷ ls) a b = ap suc (flow-entries-length ss ts ls (omega arith) (omega arith))
 
--- two for each cluster but the root, and one for each flow
+-- one for each flow, and two for each cluster but the root
 pub site-entries-length : (ps ss ts ls : List ℕ) → length ts ≡ length ss → length ls ≡ length ss → length (siteEntries ps ss ts ls) ≡ 2 * (length ps - 1) + length ss
 site-entries-length ps ss ts ls a b = omega (
   arith,
-  length-append (treeEntries (at ps) 1 (length ps - 1)) (flowEntries ss ts ls),
-  tree-entries-length (at ps) 1 (length ps - 1),
+  length-append (flowEntries ss ts ls) (treeEntries (at ps) (length ps - 1)),
+  tree-entries-length (at ps) (length ps - 1),
   flow-entries-length ss ts ls a b,
 )
 
 -- ## Which stands at a place
 
-tree-even : (parent : ℕ → ℕ) (c k j : ℕ) → j < k → getD (treeEntries parent c k) (2 * j) blank ≡ entry (parent (c + j)) (c + j) (bias + 1)
+tree-up : (parent : ℕ → ℕ) (k j : ℕ) → j < k → getD (treeEntries parent k) j blank ≡ upward parent (k - j)
 unfolding treeEntries
-tree-even parent c zero j h = absurd (omega arith)
-tree-even parent c (suc k) zero h = let same : c + 0 ≡ c = omega arith in rw same
-tree-even parent c (suc k) (suc j) h =
-    let two : 2 * suc j ≡ suc (suc (2 * j)) = omega arith in
-    let same : c + suc j ≡ suc c + j = omega arith in
-    rw (two, same) (tree-even parent (suc c) k j (omega arith))
+tree-up parent k j h = let up = falling (upward parent) k in
+    List·getD-append up (values (downward parent) 1 k) blank j (omega (arith, falling-length (upward parent) k)) ∙ falling-getD (upward parent) blank k j h
 
-tree-odd : (parent : ℕ → ℕ) (c k j : ℕ) → j < k → getD (treeEntries parent c k) (suc (2 * j)) blank ≡ entry (c + j) (parent (c + j)) bias
+tree-down : (parent : ℕ → ℕ) (k j : ℕ) → j < k → getD (treeEntries parent k) (k + j) blank ≡ downward parent (1 + j)
 unfolding treeEntries
-tree-odd parent c zero j h = absurd (omega arith)
-tree-odd parent c (suc k) zero h = let same : c + 0 ≡ c = omega arith in rw same
-tree-odd parent c (suc k) (suc j) h =
-    let two : 2 * suc j ≡ suc (suc (2 * j)) = omega arith in
-    let same : c + suc j ≡ suc c + j = omega arith in
-    rw (two, same) (tree-odd parent (suc c) k j (omega arith))
+tree-down parent k j h = let up = falling (upward parent) k in let down = values (downward parent) 1 k in
+    ap (λ (n : ℕ). getD (up ++ down) (n + j) blank) (sym (falling-length (upward parent) k)) ∙ getD-append-add up down j blank ∙ values-getD (downward parent) blank 1 k j h
 
 flow-at : (ss ts ls : List ℕ) (i : ℕ) → length ts ≡ length ss → length ls ≡ length ss → i < length ss → getD (flowEntries ss ts ls) i blank ≡ entry (at ts i) (at ss i) (at ls i)
 unfolding flowEntries
@@ -61,30 +58,30 @@ flow-at (s ∷ ss) (t ∷ ts) [] i a b h = absurd (omega arith)
 flow-at (s ∷ ss) (t ∷ ts) (l ∷ ls) zero a b h = refl
 flow-at (s ∷ ss) (t ∷ ts) (l ∷ ls) (suc i) a b h = flow-at ss ts ls i (omega arith) (omega arith) (omega arith)
 
-module _ (ps ss ts ls : List ℕ) where
-  in-tree : (place : ℕ) → place < 2 * (length ps - 1) → getD (siteEntries ps ss ts ls) place blank ≡ getD (treeEntries (at ps) 1 (length ps - 1)) place blank
-  in-tree place h = List·getD-append (treeEntries (at ps) 1 (length ps - 1)) (flowEntries ss ts ls) blank place (omega (arith, tree-entries-length (at ps) 1 (length ps - 1)))
+module _ (ps ss ts ls : List ℕ) (a : length ts ≡ length ss) (b : length ls ≡ length ss) where
+  -- the first places are the flows'
+  pub site-flow : (flow : ℕ) → flow < length ss → getD (siteEntries ps ss ts ls) flow blank ≡ entry (at ts flow) (at ss flow) (at ls flow)
+  site-flow flow h =
+      List·getD-append (flowEntries ss ts ls) (treeEntries (at ps) (length ps - 1)) blank flow (omega (arith, flow-entries-length ss ts ls a b)) ∙ flow-at ss ts ls flow a b h
 
-  -- an even place of the tree's: the child is at most 1 above its parent
-  pub site-even : (place : ℕ) → place < 2 * (length ps - 1) → place % 2 ≡ 0 → getD (siteEntries ps ss ts ls) place blank ≡ entry (at ps (place / 2 + 1)) (place / 2 + 1) (bias + 1)
-  site-even place h e =
-      let twice : place ≡ 2 * (place / 2) = omega arith in
-      let child : 1 + place / 2 ≡ place / 2 + 1 = omega arith in
-      in-tree place h ∙ ap (λ (n : ℕ). getD (treeEntries (at ps) 1 (length ps - 1)) n blank) twice ∙ (rw child at (tree-even (at ps) 1 (length ps - 1) (place / 2) (omega arith)))
+  in-tree : (place : ℕ) → length ss ≤ place → getD (siteEntries ps ss ts ls) place blank ≡ getD (treeEntries (at ps) (length ps - 1)) (place - length ss) blank
+  in-tree place h =
+      let behind : place ≡ length (flowEntries ss ts ls) + (place - length ss) = omega (arith, flow-entries-length ss ts ls a b) in
+      ap (λ (n : ℕ). getD (siteEntries ps ss ts ls) n blank) behind ∙ getD-append-add (flowEntries ss ts ls) (treeEntries (at ps) (length ps - 1)) (place - length ss) blank
 
-  -- an odd place of the tree's: the child is not below its parent
-  pub site-odd : (place : ℕ) → place < 2 * (length ps - 1) → place % 2 ≡ 1 → getD (siteEntries ps ss ts ls) place blank ≡ entry (place / 2 + 1) (at ps (place / 2 + 1)) bias
-  site-odd place h e =
-      let twice : place ≡ suc (2 * (place / 2)) = omega arith in
-      let child : 1 + place / 2 ≡ place / 2 + 1 = omega arith in
-      in-tree place h ∙ ap (λ (n : ℕ). getD (treeEntries (at ps) 1 (length ps - 1)) n blank) twice ∙ (rw child at (tree-odd (at ps) 1 (length ps - 1) (place / 2) (omega arith)))
+  -- behind them one goes up from each child, the last child first
+  pub site-up : (place : ℕ) → length ss ≤ place → place - length ss < length ps - 1
+      → getD (siteEntries ps ss ts ls) place blank ≡ upward (at ps) (length ps - 1 - (place - length ss))
+  site-up place h l = in-tree place h ∙ tree-up (at ps) (length ps - 1) (place - length ss) l
 
-  -- a place behind the tree's: a flow's
-  pub site-flow : length ts ≡ length ss → length ls ≡ length ss → (flow : ℕ) → flow < length ss
-      → getD (siteEntries ps ss ts ls) (2 * (length ps - 1) + flow) blank ≡ entry (at ts flow) (at ss flow) (at ls flow)
-  site-flow a b flow h =
-      let tree = treeEntries (at ps) 1 (length ps - 1) in
-      ap (λ (n : ℕ). getD (siteEntries ps ss ts ls) (n + flow) blank) (sym (tree-entries-length (at ps) 1 (length ps - 1))) ∙ getD-append-add tree (flowEntries ss ts ls) flow blank ∙ flow-at ss ts ls flow a b h
+  -- and then one goes down to each child, the first child first
+  pub site-down : (place : ℕ) → length ss + (length ps - 1) ≤ place → place < 2 * (length ps - 1) + length ss
+      → getD (siteEntries ps ss ts ls) place blank ≡ downward (at ps) (place - length ss - (length ps - 1) + 1)
+  site-down place h l =
+      let j = place - length ss - (length ps - 1) in
+      let behind : place - length ss ≡ length ps - 1 + j = omega arith in
+      let child : 1 + j ≡ j + 1 = omega arith in
+      in-tree place (omega arith) ∙ ap (λ (n : ℕ). getD (treeEntries (at ps) (length ps - 1)) n blank) behind ∙ (rw child at (tree-down (at ps) (length ps - 1) j (omega arith)))
 
 -- ## The flows' limits
 

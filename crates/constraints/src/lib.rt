@@ -58,8 +58,9 @@ pub fn limit_flows(descents: &[u8], deadlines: &[u32], interval: u32, limits: &m
     }
 }
 
-// The constraint at a place of the list: the tree's come first, two for each cluster but the root,
-// and then one for each flow, from its sink to its source.
+// The constraint at a place of the list. One for each flow comes first, from its sink to its source.
+// Then the tree's: one from each child up to its parent, the last child first, and one from each
+// parent down to its child, the first child first.
 fn constraint_at(
     place: usize,
     parents: &[u8],
@@ -70,28 +71,29 @@ fn constraint_at(
     requires { ⌜ (0 < length (now parents)) × (length (now parents) ≤ 64) × (length (now sinks) ≡ length (now sources)) × (length (now limits) ≡ length (now sources)) × (place < 2 * (length (now parents) - 1) + length (now sources)) ⌝ }
     ensures { λ r. ⌜ r ≡ getD (siteEntries (now (parents .entry)) (now (sources .entry)) (now (sinks .entry)) (now (limits .entry))) place blank ⌝ }
 {
-    let of_tree = 2 * (parents.len() - 1);
-    if of_tree <= place {
-        let flow = place - of_tree;
+    let flows = sources.len();
+    if place < flows {
         return Constraint {
-            from: sinks[flow] as u32,
-            to: sources[flow] as u32,
-            credit: limits[flow],
+            from: sinks[place] as u32,
+            to: sources[place] as u32,
+            credit: limits[place],
         };
     }
-    let child = place / 2 + 1;
-    if place % 2 == 0 {
-        Constraint {
-            from: parents[child] as u32,
-            to: child as u32,
-            credit: BIAS + 1,
-        }
-    } else {
-        Constraint {
+    let of_tree = place - flows;
+    let children = parents.len() - 1;
+    if of_tree < children {
+        let child = children - of_tree;
+        return Constraint {
             from: child as u32,
             to: parents[child] as u32,
             credit: BIAS,
-        }
+        };
+    }
+    let child = of_tree - children + 1;
+    Constraint {
+        from: parents[child] as u32,
+        to: child as u32,
+        credit: BIAS + 1,
     }
 }
 

@@ -1,13 +1,12 @@
--- `constraints::constraint_at` meets its contract. Each of its three ends gives the entry that the laws of the list say stands at the place: a flow's behind
--- the tree's, and of the tree's an even and an odd one.
-use mathlib.Core.Path.{_≡_, sym, ap, _∙_}
-use Prim.Native.Nat.{ℕ, _+_, _-_, _*_}
+-- `constraints::constraint_at` meets its contract. Each of its three ends gives the entry that the laws of the list say stands at the place: a flow's, and
+-- behind those of the flows one up the tree, and behind these one down.
+use mathlib.Core.Path.{sym}
+use Prim.Native.Nat.{ℕ, _+_, _-_}
 use native.Mathlib.Omega.{arith}
-use lib.ListN.{length, getD}
+use lib.ListN.{length}
 use mir.Syntax.{w8, w32}
 use mir.Val.{Fits}
-use Rattle.constraints.specs.Entries.{blank, siteEntries}
-use Rattle.constraints.specs.EntryLaws.{site-even, site-odd, site-flow}
+use Rattle.constraints.specs.EntryLaws.{site-flow, site-up, site-down}
 use borrow.Author.Needs.{needs}
 use Rattle.constraints.proofs.constraint_at.Statement.{statement}
 use Rattle.constraints.proofs.constraint_at.Tie as tie
@@ -15,12 +14,6 @@ use Rattle.constraints.proofs.constraint_at.Tie as tie
 -- an element of a slice of bytes fits 32 bits, whichever it is
 byte-fits : (x : ℕ) → Fits w8 x → Fits w32 x
 byte-fits x h = omega arith
-
-sub-of-tree : tie.Need-sub-of-tree
-sub-of-tree c = search needs
-
-mul-of-tree : tie.Need-mul-of-tree
-mul-of-tree c = search needs
 
 shared-slice-read-t13 : tie.Need-shared-slice-read-t13
 shared-slice-read-t13 c = search needs
@@ -43,51 +36,52 @@ shared-slice-read-t20 c = search needs
 returns : tie.Need-returns
 returns c =
     let a = c .before .before .before .before .args in
-    let of-tree = 2 * (length (a .parents .now) - 1) in
-    let place : of-tree + (a .place - of-tree) ≡ a .place = omega arith in
-    sym (ap (λ (n : ℕ). getD (siteEntries (a .parents .now) (a .sources .now) (a .sinks .now) (a .limits .now)) n blank) (sym place)
-    ∙ site-flow (a .parents .now) (a .sources .now) (a .sinks .now) (a .limits .now) (omega arith) (omega arith) (a .place - of-tree) (omega arith))
+    sym (site-flow (a .parents .now) (a .sources .now) (a .sinks .now) (a .limits .now) (omega arith) (omega arith) (a .place) (omega arith))
 
-add-child : tie.Need-add-child
-add-child c = search needs
+sub-children : tie.Need-sub-children
+sub-children c = search needs
 
-shared-slice-read-t23 : tie.Need-shared-slice-read-t23
-shared-slice-read-t23 c = search needs
+sub-child : tie.Need-sub-child
+sub-child c = search needs
 
-cast-t24 : tie.Need-cast-t24
-cast-t24 c = byte-fits _ (c .shared-slice-known4 .given _)
+cast-t22 : tie.Need-cast-t22
+cast-t22 c = search needs
+
+shared-slice-read-t24 : tie.Need-shared-slice-read-t24
+shared-slice-read-t24 c = search needs
 
 cast-t25 : tie.Need-cast-t25
-cast-t25 c = search needs
-
-add-t26 : tie.Need-add-t26
-add-t26 c = search needs
-
-cast-t27 : tie.Need-cast-t27
-cast-t27 c = search needs
-
-shared-slice-read-t29 : tie.Need-shared-slice-read-t29
-shared-slice-read-t29 c = search needs
-
-cast-t30 : tie.Need-cast-t30
-cast-t30 c = byte-fits _ (c .shared-slice-known5 .given _)
+cast-t25 c = let a = c .before .before .before .args in omega (arith, c .shared-slice-known4 .given (length (a .parents .now) - 1 - (a .place - length (a .sources .now))))
 
 returns-2 : tie.Need-returns-2
 returns-2 c =
     let a = c .before .before .before .args in
-    sym (site-even (a .parents .now) (a .sources .now) (a .sinks .now) (a .limits .now) (a .place) (omega arith) (omega arith))
+    sym (site-up (a .parents .now) (a .sources .now) (a .sinks .now) (a .limits .now) (omega arith) (omega arith) (a .place) (omega arith) (omega arith))
+
+add-child : tie.Need-add-child
+add-child c = search needs
+
+shared-slice-read-t27 : tie.Need-shared-slice-read-t27
+shared-slice-read-t27 c = search needs
+
+cast-t28 : tie.Need-cast-t28
+cast-t28 c = let a = c .before .before .before .args in omega (arith, c .shared-slice-known5 .given (a .place - length (a .sources .now) - (length (a .parents .now) - 1) + 1))
+
+cast-t29 : tie.Need-cast-t29
+cast-t29 c = search needs
+
+add-t30 : tie.Need-add-t30
+add-t30 c = search needs
 
 returns-3 : tie.Need-returns-3
 returns-3 c =
     let a = c .before .before .before .args in
-    sym (site-odd (a .parents .now) (a .sources .now) (a .sinks .now) (a .limits .now) (a .place) (omega arith) (omega arith))
+    sym (site-down (a .parents .now) (a .sources .now) (a .sinks .now) (a .limits .now) (omega arith) (omega arith) (a .place) (omega arith) (omega arith))
 
 pub constraint-at-spec : {M : Type 1} → statement M
 constraint-at-spec =
     tie.close
     (tie.spec
-    sub-of-tree
-    mul-of-tree
     shared-slice-read-t13
     cast-t14
     shared-slice-read-t16
@@ -95,13 +89,15 @@ constraint-at-spec =
     mul-t18
     shared-slice-read-t20
     returns
-    add-child
-    shared-slice-read-t23
-    cast-t24
+    sub-children
+    sub-child
+    cast-t22
+    shared-slice-read-t24
     cast-t25
-    add-t26
-    cast-t27
-    shared-slice-read-t29
-    cast-t30
     returns-2
+    add-child
+    shared-slice-read-t27
+    cast-t28
+    cast-t29
+    add-t30
     returns-3)
