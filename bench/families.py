@@ -3,8 +3,8 @@ by halves, as the library searches for the order, and in turn from the largest o
 tests/reference does.
 
 The family: shapes of trees, the flows up their edges in several orders, and the edge that a flow down turns
-into a negative loop. Rounds are counted in place and from the depths, over the constraints of the independent
-planner. Exit status 1 where a member takes more rounds than the stored site, either way.
+into a negative loop. Rounds are counted in place and from the depths, each side's over its own list of the
+constraints. Exit status 1 where a member takes more rounds than the stored site, either way.
 """
 
 import random
@@ -17,9 +17,19 @@ import planning
 import reference
 
 
-def rounds_at(site, order):
-    """How many rounds the relaxing takes at an order, and whether it settles."""
-    limits = planning.constraints(site, order)
+def plain_list(site, order):
+    """The constraints as plain C lists them: for each child the ones from and to its parent, then the flows'."""
+    return planning.constraints(site, order)
+
+
+def library_list(site, order):
+    """The library lists them otherwise: the flows', up the tree by falling number, down it by rising number."""
+    found, of_tree = planning.constraints(site, order), 2 * (site.cluster_count - 1)
+    return found[of_tree:] + found[1:of_tree:2][::-1] + found[:of_tree:2]
+
+
+def rounds_at(site, limits):
+    """How many rounds the relaxing over these constraints takes, and whether it settles."""
     distances = [planning.depth(site, cluster) for cluster in range(site.cluster_count)]
     for number in range(1, site.cluster_count + 1):
         changed = False
@@ -58,8 +68,9 @@ def by_halves(tried):
 def rounds(text):
     """The rounds that a site takes, by halves and in turn."""
     site = reference.read(text)
-    tried = [rounds_at(site, order) for order in planning.fitting_orders(site)]
-    return by_halves(tried), in_turn(tried)
+    orders = planning.fitting_orders(site)
+    return (by_halves([rounds_at(site, library_list(site, order)) for order in orders]),
+            in_turn([rounds_at(site, plain_list(site, order)) for order in orders]))
 
 
 def family():
