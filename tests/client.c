@@ -1,6 +1,6 @@
 /* The commissioning tool's view: calls every function of cartheron.h over texts whose answers
- * docs/FORMATS.md gives, and measures the stack that planning the largest site takes. Prints a line for each check
- * that fails, then how many passed and failed. */
+ * docs/FORMATS.md gives, and measures the stack that planning and rewriting the largest site take. Prints a line for
+ * each check that fails, then how many passed and failed. */
 #define _GNU_SOURCE
 #include <pthread.h>
 #include <stdio.h>
@@ -187,6 +187,12 @@ static void *planning(void *nothing)
     return nothing;
 }
 
+static void *rewriting(void *nothing)
+{
+    answer = cartheron_rewrite((const uint8_t *)site, site_len, memory, sizeof memory);
+    return nothing;
+}
+
 static void *idle(void *nothing)
 {
     return nothing;
@@ -228,10 +234,14 @@ int main(void)
     declines("the longest site written back into a room one byte short", cartheron_rewrite, site, site_len - 1,
              CARTHERON_SHORT_ROOM, 0);
     clear();
-    size_t used = stack_of(planning) - stack_of(idle);
+    size_t unused = stack_of(idle), used = stack_of(planning) - unused;
     check(answer == 65536u * CARTHERON_NO_PLACING && holds(""), "the largest site has no placing, and the room stays");
     check(used <= 24 * 1024, "the stack under cartheron_plan is at most 24 KiB");
     printf("stack under cartheron_plan: %zu bytes\n", used);
+    used = stack_of(rewriting) - unused;
+    check(answer == site_len && holds(site), "the largest site written back on a painted stack");
+    check(used <= 24 * 1024, "the stack under cartheron_rewrite is at most 24 KiB");
+    printf("stack under cartheron_rewrite: %zu bytes\n", used);
     printf("client: %d passed, %d failed\n", passed, failed);
     return failed != 0;
 }
