@@ -1,0 +1,234 @@
+/* The reader. Each line is first taken for the one that is due: its length is then known before its end is
+ * looked for, and one test at the end of each line says whether all was as it should be. Only a line that was
+ * not is looked at again, to find the number of its refusal. */
+#include "plain.h"
+
+#include <stdbool.h>
+#include <string.h>
+
+enum { HEADER = 1, CLUSTER = 2, FLOW = 3, NOTHING = 0 };
+enum { HEADER_DIGITS = 8, FLOW_DIGITS = 22, MOST_DIGITS = 136, PAIRS = 16, MOST_TAG = 64 };
+
+#define EACH(byte) (0x0101010101010101u * (byte))
+#define LONGEST_TIME 1000000000u
+
+/* Eight characters as one number, the first one highest. */
+static inline uint64_t eight_at(const uint8_t *at)
+{
+    return (uint64_t)at[0] << 56 | (uint64_t)at[1] << 48 | (uint64_t)at[2] << 40 | (uint64_t)at[3] << 32 |
+           (uint64_t)at[4] << 24 | (uint64_t)at[5] << 16 | (uint64_t)at[6] << 8 | (uint64_t)at[7];
+}
+
+/* The number that eight digits stand for. What is added to *wrong is 0 if they are digits: a value of 0 to 15
+ * that is written as the same character again. */
+static inline uint32_t number_at(const uint8_t *at, uint64_t *wrong)
+{
+    uint64_t characters = eight_at(at);
+    uint64_t values = (characters & EACH(0x0F)) + 9 * (characters >> 6 & EACH(0x01));
+    uint64_t letters = (values + EACH(6)) >> 4 & EACH(0x01);
+
+    *wrong |= (values & EACH(0xF0)) | ((values + EACH('0') + 7 * letters) ^ characters);
+    values = (values | values >> 4) & 0x00FF00FF00FF00FF;
+    values = (values | values >> 8) & 0x0000FFFF0000FFFF;
+    return (uint32_t)(values | values >> 16);
+}
+
+/* What has been seen of a tag: flaws in any of its blocks, and sums over them, at each of sixteen places. */
+struct seen {
+    uint8_t flaws[PAIRS];
+    uint8_t sums[PAIRS];
+};
+
+/* A byte that tells pairs of digits apart whose first is 2 to 7. */
+static inline uint8_t key_of(uint8_t high, uint8_t low)
+{
+    return (uint8_t)(32 * high + low);
+}
+
+/* 0 if two digits stand for 21 to 7E, else 1: a first digit 2 to 7 and a second, but not 20 and not 7F. */
+static inline uint8_t flaw_of(uint8_t high, uint8_t low)
+{
+    uint8_t digit = ((uint8_t)(low - '0') < 10) | ((uint8_t)(low - 'A') < 6);
+    uint8_t inside = (uint8_t)(high - '2') < 6;
+    uint8_t edge = (key_of(high, low) == key_of('2', '0')) | (key_of(high, low) == key_of('7', 'F'));
+    return (uint8_t)(1 - (digit & inside)) | edge;
+}
+
+/* Looks at sixteen bytes of a tag, by their digits. */
+static inline void look(const uint8_t *restrict digits, struct seen *restrict seen)
+{
+    for (size_t i = 0; i < PAIRS; i++) {
+        uint8_t high = digits[2 * i], low = digits[2 * i + 1];
+        seen->flaws[i] |= flaw_of(high, low);
+        seen->sums[i] = (uint8_t)(3 * seen->sums[i] + key_of(high, low));
+    }
+}
+
+/* A fingerprint of sixteen sums and a length: never 0. */
+static inline uint16_t print_of(const uint8_t *sums, size_t length)
+{
+    uint64_t a = eight_at(sums) + length, b = eight_at(sums + 8);
+
+    return (uint16_t)((a * 0x9E3779B97F4A7C15u + b * 0xC2B2AE3D27D4EB4Fu) >> 48 | 1);
+}
+
+/* The fingerprint of a tag by its digits, or 0 if a byte of it is not 21 to 7E. The last block of a long tag
+ * overlaps the one before it; a short tag is made up to a block. */
+static inline uint16_t tag_print(const uint8_t *digits, size_t length)
+{
+    struct seen seen = {{0}, {0}};
+    uint8_t block[2 * PAIRS], none = 0;
+
+    if (length < PAIRS) {
+        memset(block, '3', sizeof block);
+        memcpy(block, digits, 2 * length);
+        look(block, &seen);
+    } else {
+        for (size_t at = 0; at < length - PAIRS; at += PAIRS)
+            look(digits + 2 * at, &seen);
+        look(digits + 2 * (length - PAIRS), &seen);
+    }
+    for (size_t i = 0; i < PAIRS; i++)
+        none |= seen.flaws[i];
+    return none ? 0 : print_of(seen.sums, length);
+}
+
+/* Whether one of the first clusters has this tag. Tags are the same exactly if their digits are; the print
+ * of any place behind the clusters is 0. */
+static inline bool tag_used(const uint8_t *text, const struct plain_site *site, const uint16_t *prints, size_t number,
+                            const uint8_t *digits, size_t length)
+{
+    uint16_t alike = 0;
+
+    for (size_t i = 0; i < MOST_CLUSTERS; i++)
+        alike |= prints[i] == prints[MOST_CLUSTERS];
+    if (!alike)
+        return false;
+    for (size_t i = 0; i < number; i++)
+        if (prints[i] == prints[MOST_CLUSTERS] && site->tag_length[i] == length &&
+            memcmp(text + site->line[i] + 8, digits, 2 * length) == 0)
+            return true;
+    return false;
+}
+
+/* The value of a digit, or 16 for another character. */
+static unsigned digit_value(uint8_t character)
+{
+    if (character >= '0' && character <= '9')
+        return character - '0';
+    return character >= 'A' && character <= 'F' ? character - 'A' + 10u : 16;
+}
+
+/* The refusal of a line at which the reading stopped, where a kind was due; the text ends at `end`. What the
+ * tests here leave over is what the reading alone can have stopped for. */
+static uint32_t refused(const uint8_t *at, const uint8_t *end, size_t line, unsigned due, size_t number)
+{
+    uint8_t bytes[MOST_DIGITS / 2] = {0};
+    size_t length, left = (size_t)(end - at);
+    unsigned wrong = 0;
+
+    if (left == 0)
+        return plain_refuse(WRONG_KIND, line);
+    const uint8_t *lf = memchr(at, '\n', left <= MOST_DIGITS ? left : MOST_DIGITS + 1);
+    if (lf == NULL || lf == at || (lf - at) % 2 != 0)
+        return plain_refuse(NOT_A_LINE, line);
+    length = (size_t)(lf - at) / 2;
+    for (size_t i = 0; i < length; i++) {
+        unsigned high = digit_value(at[2 * i]), low = digit_value(at[2 * i + 1]);
+        wrong |= high | low;
+        bytes[i] = (uint8_t)(16 * high + low);
+    }
+    if (wrong > 15)
+        return plain_refuse(NOT_A_LINE, line);
+    if (due == NOTHING || bytes[0] != due)
+        return plain_refuse(WRONG_KIND, line);
+    if (due == CLUSTER ? length < 4 || length != 4u + bytes[3] : length != (due == HEADER ? 4u : 11u))
+        return plain_refuse(WRONG_LENGTH, line);
+    if (due != CLUSTER || bytes[2] > LARGEST_ORDER || length == 4)
+        return plain_refuse(OUT_OF_RANGE, line);
+    for (size_t i = 4; i < length; i++)
+        if (bytes[i] < 0x21 || bytes[i] > 0x7E)
+            return plain_refuse(OUT_OF_RANGE, line);
+    if (number == 0 ? bytes[1] != 0xFF : bytes[1] >= number)
+        return plain_refuse(WRONG_PARENT, line);
+    return plain_refuse(TAG_USED, line);
+}
+
+/* Takes a cluster's line. Returns the place behind it, or NULL if the line is refused. */
+static inline const uint8_t *take_cluster(const uint8_t *text, const uint8_t *at, const uint8_t *end, size_t number,
+                                          uint16_t *prints, struct plain_site *site)
+{
+    uint64_t wrong = 0;
+
+    if (end - at < 8)
+        return NULL;
+    uint32_t head = number_at(at, &wrong);
+    unsigned parent = head >> 16 & 255, order = head >> 8 & 255, length = head & 255;
+    const uint8_t *tag = at + 8;
+    if (wrong != 0 || head >> 24 != CLUSTER || order > LARGEST_ORDER || length - 1 >= MOST_TAG ||
+        (size_t)(end - tag) <= 2 * length || tag[2 * length] != '\n')
+        return NULL;
+    prints[MOST_CLUSTERS] = tag_print(tag, length);
+    if (prints[MOST_CLUSTERS] == 0 || (number == 0 ? parent != 0xFF : parent >= number) ||
+        tag_used(text, site, prints, number, tag, length))
+        return NULL;
+    prints[number] = prints[MOST_CLUSTERS];
+    site->line[number] = (uint16_t)(at - text);
+    site->parent[number] = (uint8_t)(number == 0 ? 0 : parent);
+    site->order[number] = (uint8_t)order;
+    site->tag_length[number] = (uint8_t)length;
+    site->tag_bytes += length;
+    site->units += 1u << order;
+    return tag + 2 * length + 1;
+}
+
+/* Takes a flow's line, and says whether it could. */
+static inline bool take_flow(const uint8_t *at, const uint8_t *end, size_t number, struct plain_site *site)
+{
+    uint64_t wrong = 0;
+
+    if (end - at <= FLOW_DIGITS || at[FLOW_DIGITS] != '\n')
+        return false;
+    uint32_t head = number_at(at, &wrong), period = number_at(at + 6, &wrong), deadline = number_at(at + 14, &wrong);
+    unsigned source = head >> 16 & 255, sink = head >> 8 & 255;
+    if (wrong != 0 || head >> 24 != FLOW || source >= site->clusters || sink >= site->clusters ||
+        period - 1 >= LONGEST_TIME || deadline - 1 >= LONGEST_TIME)
+        return false;
+    site->source[number] = (uint8_t)source;
+    site->sink[number] = (uint8_t)sink;
+    site->deadline[number] = deadline / BASE;
+    site->shortest = period < site->shortest ? period : site->shortest;
+    return true;
+}
+
+uint32_t plain_read(const uint8_t *text, size_t text_len, struct plain_site *site)
+{
+    uint16_t prints[MOST_CLUSTERS + 1] = {0};
+    uint64_t wrong = 0;
+
+    if (text_len == 0)
+        return plain_refuse(WRONG_KIND, 1);
+    const uint8_t *end = text + text_len, *at = text;
+    if (text_len <= HEADER_DIGITS || text[HEADER_DIGITS] != '\n')
+        return refused(at, end, 1, HEADER, 0);
+    uint32_t head = number_at(text, &wrong);
+    site->clusters = head >> 8 & 255;
+    site->flows = head & 255;
+    if (wrong != 0 || head >> 16 != 0x0101 || site->clusters - 1 >= MOST_CLUSTERS || site->flows > MOST_FLOWS)
+        return refused(at, end, 1, HEADER, 0);
+    at += HEADER_DIGITS + 1;
+    site->units = 0;
+    site->tag_bytes = 0;
+    site->shortest = LONGEST_TIME;
+    for (size_t c = 0; c < site->clusters; c++) {
+        const uint8_t *next = take_cluster(text, at, end, c, prints, site);
+        if (next == NULL)
+            return refused(at, end, 2 + c, CLUSTER, c);
+        at = next;
+    }
+    for (size_t f = 0; f < site->flows; f++, at += FLOW_DIGITS + 1)
+        if (!take_flow(at, end, f, site))
+            return refused(at, end, 2 + site->clusters + f, FLOW, f);
+    site->shortest /= BASE;
+    return at == end ? 0 : refused(at, end, 2 + site->clusters + site->flows, NOTHING, 0);
+}
