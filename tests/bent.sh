@@ -1,39 +1,50 @@
 #!/bin/sh
-# Sees that tests/differential.c can fail: bends the plain C reference in one place at a time, into errors that
-# look right, and each time the comparison has to report a difference.
+# Sees that tests/differential.c can fail: bends the plain C of tests/reference or of bench in one place at a
+# time, into errors that look right, and each time the comparison has to report a difference.
 set -eu
 cd "$(dirname "$0")/.."
 . tests/build.sh
 bent=target/bent
 rm -rf "$bent"
 mkdir "$bent"
-cp tests/reference/*.c tests/reference/*.h "$bent"
+cp tests/reference/*.c tests/reference/*.h bench/plain*.c bench/plain.h "$bent"
+tried=0
 
-bend() { # WHAT FILE SED-COMMAND
-    sed "$3" "tests/reference/$2" >"$bent/$2"
-    if cmp -s "tests/reference/$2" "$bent/$2"; then
+bend() { # WHAT FOLDER/FILE SED-COMMAND
+    file=$(basename "$2")
+    sed "$3" "$2" >"$bent/$file"
+    if cmp -s "$2" "$bent/$file"; then
         echo "bent: '$1' changes nothing"
         exit 1
     fi
-    compile bent.program -Itests tests/differential.c tests/generator_site.c tests/generator_text.c tests/generator_damage.c \
-        "$bent/read.c" "$bent/plan.c" "$bent/plan_text.c" "$bent/brute.c"
+    compile bent.program -Itests -Ibench tests/differential.c tests/generator_site.c tests/generator_text.c \
+        tests/generator_damage.c "$bent/read.c" "$bent/plan.c" "$bent/plan_text.c" "$bent/brute.c" \
+        "$bent/plain_read.c" "$bent/plain_plan.c" "$bent/plain_write.c"
     if run_static target/bent.program 1 20000 >target/bent.out 2>&1 || ! grep -q '^repeat it:' target/bent.out; then
         echo "bent: '$1' was not reported"
         exit 1
     fi
-    cp "tests/reference/$2" "$bent/$2"
+    cp "$2" "$bent/$file"
+    tried=$((tried + 1))
 }
 
-bend "tags compared over 16 bytes" read.c 's/memcmp(a->tag, b->tag, a->tag_length)/memcmp(a->tag, b->tag, a->tag_length < 16 ? a->tag_length : 16)/'
-bend "tags compared over the shorter length" read.c 's/a->tag_length == b->tag_length \&\& //'
-bend "a missing line one off" read.c 's/return refuse(WRONG_KIND, line);/return refuse(WRONG_KIND, line - 1);/'
-bend "a parent that is not lower taken" read.c 's/bytes\[1\] >= number)/bytes[1] > number)/'
-bend "an order of 15 taken" read.c 's/bytes\[2\] > REFERENCE_LARGEST_ORDER/bytes[2] > REFERENCE_LARGEST_ORDER + 1/'
-bend "one crossing too many allowed" plan.c 's|(int32_t)(deadline / interval) - 1|(int32_t)(deadline / interval)|'
-bend "the downward part forgotten" plan.c 's/allowed_crossings(flow->deadline, interval) - down\[f\]/allowed_crossings(flow->deadline, interval) - 0 * down[f]/'
-bend "a full period refused" plan.c 's/symbols((unsigned)order) >= sum/symbols((unsigned)order) > sum/'
-bend "smaller orders not tried" plan.c 's/            return NONE;/            return NONE;\n        break;/'
-bend "ties by the highest number" plan.c 's/size_t next = 0;/size_t next = site->clusters - 1u;/;s/            next++;/            next--;/'
-bend "a byte written behind the answer" plan.c 's/    put_plan(\&site, \&plan, room);/    put_plan(\&site, \&plan, room);\n    if (room_len > length)\n        room[length] = 0;/'
-bend "a room of just the length refused" plan.c 's/room_len < length/room_len <= length/'
-echo "bent: each of 12 wrong references was reported"
+read=tests/reference/read.c
+plan=tests/reference/plan.c
+bend "tags compared over 16 bytes" $read 's/memcmp(a->tag, b->tag, a->tag_length)/memcmp(a->tag, b->tag, a->tag_length < 16 ? a->tag_length : 16)/'
+bend "tags compared over the shorter length" $read 's/a->tag_length == b->tag_length \&\& //'
+bend "a missing line one off" $read 's/return refuse(WRONG_KIND, line);/return refuse(WRONG_KIND, line - 1);/'
+bend "a parent that is not lower taken" $read 's/bytes\[1\] >= number)/bytes[1] > number)/'
+bend "an order of 15 taken" $read 's/bytes\[2\] > REFERENCE_LARGEST_ORDER/bytes[2] > REFERENCE_LARGEST_ORDER + 1/'
+bend "one crossing too many allowed" $plan 's|(int32_t)(deadline / interval) - 1|(int32_t)(deadline / interval)|'
+bend "the downward part forgotten" $plan 's/allowed_crossings(flow->deadline, interval) - down\[f\]/allowed_crossings(flow->deadline, interval) - 0 * down[f]/'
+bend "a full period refused" $plan 's/symbols((unsigned)order) >= sum/symbols((unsigned)order) > sum/'
+bend "smaller orders not tried" $plan 's/            return NONE;/            return NONE;\n        break;/'
+bend "ties by the highest number" $plan 's/size_t next = 0;/size_t next = site->clusters - 1u;/;s/            next++;/            next--;/'
+bend "a byte written behind the answer" $plan 's/    put_plan(\&site, \&plan, room);/    put_plan(\&site, \&plan, room);\n    if (room_len > length)\n        room[length] = 0;/'
+bend "a room of just the length refused" $plan 's/room_len < length/room_len <= length/'
+bend "fast: a tag byte of 7F taken" bench/plain_read.c "s/ | (key_of(high, low) == key_of('7', 'F'))//"
+bend "fast: tags compared over the shorter length" bench/plain_read.c 's/eight_at(sums) + length/eight_at(sums)/;s/ \&\& site->tag_length\[i\] == length//'
+bend "fast: a flow whose limit is its source's depth less one left out" bench/plain_plan.c 's/most >= tree->depth\[source\]/most >= tree->depth[source] - 1/'
+bend "fast: a lowered cluster leaves its parent alone" bench/plain_plan.c 's/        lower(n, site->parent\[c\], n\[c\], \&again);//'
+bend "fast: a room of just the length refused" bench/plain_write.c 's/room_len < text_len/room_len <= text_len/'
+echo "bent: each of $tried bent programs was reported"

@@ -1,10 +1,11 @@
-/* Compares the library with the plain C of tests/reference on seeded site texts, sound and damaged, and
- * what it plans with the brute force. tests/differential.sh builds and runs it:
+/* Compares the library with the plain C of tests/reference and with that of bench/plain.h on seeded site
+ * texts, sound and damaged, and what it plans with the brute force. tests/differential.sh builds and runs it:
  *   differential [SEED [COUNT]]      seed 1 and 200,000 cases unless given
  *   differential --case SEED NUMBER  that case alone, with its text
  */
 #include "cartheron.h"
 #include "generator.h"
+#include "plain.h"
 #include "reference/brute.h"
 #include "reference/plan_text.h"
 
@@ -22,11 +23,12 @@
 
 typedef uint32_t writer(const uint8_t *text, size_t text_len, uint8_t *room, size_t room_len);
 
-/* A function of the library and the one of the reference that has to give the same. */
-struct pair {
+/* A function of the library, and those of the reference and of the fast plain C that have to give the same. */
+struct trio {
     const char *name;
     writer *product;
     writer *reference;
+    writer *plain;
 };
 
 /* What a run has seen. */
@@ -37,7 +39,7 @@ struct tally {
     uint64_t tight;
 };
 
-/* One case: its text, and the two rooms with guard bytes before and behind. */
+/* One case: its text, and the three rooms with guard bytes before and behind. */
 struct contest {
     uint64_t seed;
     uint64_t number;
@@ -47,10 +49,11 @@ struct contest {
     uint8_t pattern[LONGEST_ROOM + 2 * GUARD];
     uint8_t product[LONGEST_ROOM + 2 * GUARD];
     uint8_t reference[LONGEST_ROOM + 2 * GUARD];
+    uint8_t plain[LONGEST_ROOM + 2 * GUARD];
 };
 
-static const struct pair plan = {"plan", cartheron_plan, reference_plan};
-static const struct pair rewrite = {"rewrite", cartheron_rewrite, reference_rewrite};
+static const struct trio plan = {"plan", cartheron_plan, reference_plan, plain_plan};
+static const struct trio rewrite = {"rewrite", cartheron_rewrite, reference_rewrite, plain_rewrite};
 
 /* Prints an answer: a length, or a refusal and its line. */
 static void print_answer(const char *who, uint32_t answer)
@@ -59,6 +62,14 @@ static void print_answer(const char *who, uint32_t answer)
         printf("%s: refusal %" PRIu32 " at line %" PRIu32 "\n", who, answer >> 16, CARTHERON_LINE(answer));
     else
         printf("%s: length %" PRIu32 "\n", who, answer);
+}
+
+/* Prints the answers of the three. */
+static void print_answers(uint32_t product, uint32_t reference, uint32_t plain)
+{
+    print_answer("library  ", product);
+    print_answer("reference", reference);
+    print_answer("plain C  ", plain);
 }
 
 /* How many bytes an answer says are written. */
@@ -92,26 +103,30 @@ static _Noreturn void give_up(const struct contest *contest, const char *words)
     exit(1);
 }
 
-/* Runs both functions on rooms of this length with the same pattern in and around them. Their numbers and
- * all bytes must agree, and those behind the answer must be as they were. Returns the answer. */
-static uint32_t compare(struct contest *contest, const struct pair *pair, size_t room_len)
+/* Runs the three functions on rooms of this length with the same pattern in and around them. Their numbers
+ * and all bytes must agree, and those behind the answer must be as they were. Returns the answer. */
+static uint32_t compare(struct contest *contest, const struct trio *trio, size_t room_len)
 {
     const struct text *text = &contest->text;
     size_t whole = room_len + 2 * GUARD;
 
     memcpy(contest->product, contest->pattern, whole);
     memcpy(contest->reference, contest->pattern, whole);
-    uint32_t product = pair->product(text->bytes, text->length, contest->product + GUARD, room_len);
-    uint32_t reference = pair->reference(text->bytes, text->length, contest->reference + GUARD, room_len);
+    memcpy(contest->plain, contest->pattern, whole);
+    uint32_t product = trio->product(text->bytes, text->length, contest->product + GUARD, room_len);
+    uint32_t reference = trio->reference(text->bytes, text->length, contest->reference + GUARD, room_len);
+    uint32_t plain = trio->plain(text->bytes, text->length, contest->plain + GUARD, room_len);
     size_t behind = GUARD + written_by(reference);
     bool kept = memcmp(contest->reference, contest->pattern, GUARD) == 0 && behind <= GUARD + room_len &&
                 memcmp(contest->reference + behind, contest->pattern + behind, whole - behind) == 0;
-    if (product != reference || !kept || memcmp(contest->product, contest->reference, whole) != 0) {
+    bool agree = product == reference && memcmp(contest->product, contest->reference, whole) == 0 &&
+                 plain == reference && memcmp(contest->plain, contest->reference, whole) == 0;
+    if (!kept || !agree) {
         report(contest, "number or room are not as they should be");
-        printf("%s with a room of %zu bytes\n", pair->name, room_len);
-        print_answer("library  ", product);
-        print_answer("reference", reference);
+        printf("%s with a room of %zu bytes\n", trio->name, room_len);
+        print_answers(product, reference, plain);
         print_difference("library and reference", contest->product, contest->reference, 0, whole);
+        print_difference("plain C and reference", contest->plain, contest->reference, 0, whole);
         print_difference("before and after the library, behind its answer", contest->pattern,
                          contest->product, GUARD + written_by(product), whole);
         print_difference("before and after the reference, behind its answer", contest->pattern,
@@ -121,17 +136,17 @@ static uint32_t compare(struct contest *contest, const struct pair *pair, size_t
     return reference;
 }
 
-/* Compares the two with no room at all, and with no text where it is empty. */
-static void compare_null(struct contest *contest, const struct pair *pair)
+/* Compares the three with no room at all, and with no text where it is empty. */
+static void compare_null(struct contest *contest, const struct trio *trio)
 {
     const uint8_t *text = contest->text.length > 0 ? contest->text.bytes : NULL;
-    uint32_t product = pair->product(text, contest->text.length, NULL, 0);
-    uint32_t reference = pair->reference(text, contest->text.length, NULL, 0);
+    uint32_t product = trio->product(text, contest->text.length, NULL, 0);
+    uint32_t reference = trio->reference(text, contest->text.length, NULL, 0);
+    uint32_t plain = trio->plain(text, contest->text.length, NULL, 0);
 
-    if (product != reference) {
+    if (product != reference || plain != reference) {
         report(contest, "the answers without a room are not the same");
-        print_answer("library  ", product);
-        print_answer("reference", reference);
+        print_answers(product, reference, plain);
         exit(1);
     }
 }
@@ -145,24 +160,24 @@ static void count_answer(struct tally *tally, uint32_t answer)
         tally->planned++;
 }
 
-/* Compares the two with rooms that are too short, just long enough and longer. For some small answers
+/* Compares the three with rooms that are too short, just long enough and longer. For some small answers
  * these are all lengths up to one more than the answer. */
-static void compare_rooms(struct contest *contest, const struct pair *pair, uint32_t answer)
+static void compare_rooms(struct contest *contest, const struct trio *trio, uint32_t answer)
 {
     struct dice *dice = &contest->dice;
     size_t needed = CARTHERON_REFUSED(answer) ? below(dice, 100) : answer;
 
     if (needed < 300 && once_in(dice, 16)) {
         for (size_t room_len = 0; room_len <= needed + 1; room_len++)
-            compare(contest, pair, room_len);
+            compare(contest, trio, room_len);
         return;
     }
     if (once_in(dice, 2)) {
-        uint32_t short_answer = compare(contest, pair, below(dice, needed + 1));
-        if (pair == &plan && short_answer >> 16 == CARTHERON_SHORT_ROOM)
+        uint32_t short_answer = compare(contest, trio, below(dice, needed + 1));
+        if (trio == &plan && short_answer >> 16 == CARTHERON_SHORT_ROOM)
             count_answer(contest->tally, short_answer);
-        compare(contest, pair, needed);
-        compare(contest, pair, needed + below(dice, 20));
+        compare(contest, trio, needed);
+        compare(contest, trio, needed + below(dice, 20));
     }
 }
 
@@ -323,7 +338,7 @@ int main(int argc, char **argv)
         contest.seed = number_in(argv[2]);
         uint32_t answer = run_case(&contest, number_in(argv[3]));
         print_text(&contest.text);
-        print_answer("both agree", answer);
+        print_answer("all agree", answer);
         return 0;
     }
     contest.seed = argc > 1 ? number_in(argv[1]) : DEFAULT_SEED;
