@@ -46,7 +46,7 @@ static void grow(const struct plain_site *site, struct tree *tree)
     }
 }
 
-/* Lowers a number to a limit. True if it was higher; the cluster is then to be looked at again. */
+/* Lowers a cluster's number to a limit. If it was higher, the cluster is to be looked at again. */
 static inline void lower(int8_t *n, unsigned cluster, int limit, uint64_t *again)
 {
     bool higher = n[cluster] > limit;

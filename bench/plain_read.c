@@ -7,7 +7,7 @@
 #include <string.h>
 
 enum { HEADER = 1, CLUSTER = 2, FLOW = 3, NOTHING = 0 };
-enum { HEADER_DIGITS = 8, FLOW_DIGITS = 22, MOST_DIGITS = 136, PAIRS = 16, MOST_TAG = 64 };
+enum { HEADER_DIGITS = 8, TAG = 8, FLOW_DIGITS = 22, MOST_DIGITS = 136, PAIRS = 16, MOST_TAG = 64, NO_PARENT = 0xFF };
 
 #define EACH(byte) (0x0101010101010101u * (byte))
 #define LONGEST_TIME 1000000000u
@@ -93,20 +93,25 @@ static inline uint16_t tag_print(const uint8_t *digits, size_t length)
     return none ? 0 : print_of(seen.sums, length);
 }
 
-/* Whether one of the first clusters has this tag. Tags are the same exactly if their digits are; the print
- * of any place behind the clusters is 0. */
-static inline bool tag_used(const uint8_t *text, const struct plain_site *site, const uint16_t *prints, size_t number,
-                            const uint8_t *digits, size_t length)
+/* A text that is being read, and the fingerprints of the tags so far: 0 for those that are not read. */
+struct reading {
+    const uint8_t *text, *end;
+    uint16_t prints[MOST_CLUSTERS];
+};
+
+/* Whether a cluster before this one has its tag, which has this fingerprint. Tags are the same exactly if their
+ * digits are. */
+static inline bool tag_used(const struct reading *reading, const struct plain_site *site, size_t number, uint16_t print)
 {
+    const uint8_t *digits = reading->text + site->line[number] + TAG;
+    size_t length = site->tag_length[number];
     uint16_t alike = 0;
 
     for (size_t i = 0; i < MOST_CLUSTERS; i++)
-        alike |= prints[i] == prints[MOST_CLUSTERS];
-    if (!alike)
-        return false;
-    for (size_t i = 0; i < number; i++)
-        if (prints[i] == prints[MOST_CLUSTERS] && site->tag_length[i] == length &&
-            memcmp(text + site->line[i] + 8, digits, 2 * length) == 0)
+        alike |= reading->prints[i] == print;
+    for (size_t i = 0; alike && i < number; i++)
+        if (reading->prints[i] == print && site->tag_length[i] == length &&
+            memcmp(reading->text + site->line[i] + TAG, digits, 2 * length) == 0)
             return true;
     return false;
 }
@@ -149,36 +154,36 @@ static uint32_t refused(const uint8_t *at, const uint8_t *end, size_t line, unsi
     for (size_t i = 4; i < length; i++)
         if (bytes[i] < 0x21 || bytes[i] > 0x7E)
             return plain_refuse(OUT_OF_RANGE, line);
-    if (number == 0 ? bytes[1] != 0xFF : bytes[1] >= number)
+    if (number == 0 ? bytes[1] != NO_PARENT : bytes[1] >= number)
         return plain_refuse(WRONG_PARENT, line);
     return plain_refuse(TAG_USED, line);
 }
 
 /* Takes a cluster's line. Returns the place behind it, or NULL if the line is refused. */
-static inline const uint8_t *take_cluster(const uint8_t *text, const uint8_t *at, const uint8_t *end, size_t number,
-                                          uint16_t *prints, struct plain_site *site)
+static inline const uint8_t *take_cluster(struct reading *reading, const uint8_t *at, size_t number,
+                                          struct plain_site *site)
 {
     uint64_t wrong = 0;
 
-    if (end - at < 8)
+    if (reading->end - at < TAG)
         return NULL;
     uint32_t head = number_at(at, &wrong);
     unsigned parent = head >> 16 & 255, order = head >> 8 & 255, length = head & 255;
-    const uint8_t *tag = at + 8;
+    const uint8_t *tag = at + TAG;
     if (wrong != 0 || head >> 24 != CLUSTER || order > LARGEST_ORDER || length - 1 >= MOST_TAG ||
-        (size_t)(end - tag) <= 2 * length || tag[2 * length] != '\n')
+        (size_t)(reading->end - tag) <= 2 * length || tag[2 * length] != '\n')
         return NULL;
-    prints[MOST_CLUSTERS] = tag_print(tag, length);
-    if (prints[MOST_CLUSTERS] == 0 || (number == 0 ? parent != 0xFF : parent >= number) ||
-        tag_used(text, site, prints, number, tag, length))
-        return NULL;
-    prints[number] = prints[MOST_CLUSTERS];
-    site->line[number] = (uint16_t)(at - text);
+    uint16_t print = tag_print(tag, length);
+    site->line[number] = (uint16_t)(at - reading->text);
     site->parent[number] = (uint8_t)(number == 0 ? 0 : parent);
     site->order[number] = (uint8_t)order;
     site->tag_length[number] = (uint8_t)length;
     site->tag_bytes += length;
     site->units += 1u << order;
+    if (print == 0 || (number == 0 ? parent != NO_PARENT : parent >= number) ||
+        tag_used(reading, site, number, print))
+        return NULL;
+    reading->prints[number] = print;
     return tag + 2 * length + 1;
 }
 
@@ -201,27 +206,33 @@ static inline bool take_flow(const uint8_t *at, const uint8_t *end, size_t numbe
     return true;
 }
 
-uint32_t plain_read(const uint8_t *text, size_t text_len, struct plain_site *site)
+/* Takes the header at the beginning of a text, and says whether it could. */
+static inline bool take_header(const uint8_t *text, size_t text_len, struct plain_site *site)
 {
-    uint16_t prints[MOST_CLUSTERS + 1] = {0};
     uint64_t wrong = 0;
 
-    if (text_len == 0)
-        return plain_refuse(WRONG_KIND, 1);
-    const uint8_t *end = text + text_len, *at = text;
     if (text_len <= HEADER_DIGITS || text[HEADER_DIGITS] != '\n')
-        return refused(at, end, 1, HEADER, 0);
+        return false;
     uint32_t head = number_at(text, &wrong);
     site->clusters = head >> 8 & 255;
     site->flows = head & 255;
-    if (wrong != 0 || head >> 16 != 0x0101 || site->clusters - 1 >= MOST_CLUSTERS || site->flows > MOST_FLOWS)
-        return refused(at, end, 1, HEADER, 0);
-    at += HEADER_DIGITS + 1;
     site->units = 0;
     site->tag_bytes = 0;
     site->shortest = LONGEST_TIME;
+    return wrong == 0 && head >> 16 == 0x0101 && site->clusters - 1 < MOST_CLUSTERS && site->flows <= MOST_FLOWS;
+}
+
+uint32_t plain_read(const uint8_t *text, size_t text_len, struct plain_site *site)
+{
+    if (text_len == 0)
+        return plain_refuse(WRONG_KIND, 1);
+    const uint8_t *end = text + text_len;
+    if (!take_header(text, text_len, site))
+        return refused(text, end, 1, HEADER, 0);
+    struct reading reading = {text, end, {0}};
+    const uint8_t *at = text + HEADER_DIGITS + 1;
     for (size_t c = 0; c < site->clusters; c++) {
-        const uint8_t *next = take_cluster(text, at, end, c, prints, site);
+        const uint8_t *next = take_cluster(&reading, at, c, site);
         if (next == NULL)
             return refused(at, end, 2 + c, CLUSTER, c);
         at = next;
