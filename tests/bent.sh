@@ -17,8 +17,8 @@ bend() { # WHAT FOLDER/FILE SED-COMMAND
         echo "bent: '$1' changes nothing"
         exit 1
     fi
-    compile bent.program -Itests -Ibench tests/differential.c tests/generator_site.c tests/generator_text.c \
-        tests/generator_damage.c "$bent/read.c" "$bent/plan.c" "$bent/plan_text.c" "$bent/brute.c" \
+    compile bent.program -Itests -Ibench tests/differential.c tests/contest.c tests/generator_site.c \
+        tests/generator_text.c tests/generator_damage.c "$bent/read.c" "$bent/plan.c" "$bent/plan_text.c" "$bent/brute.c" \
         "$bent/plain_read.c" "$bent/plain_plan.c" "$bent/plain_write.c"
     if run_static target/bent.program 1 20000 >target/bent.out 2>&1 || ! grep -q '^repeat it:' target/bent.out; then
         echo "bent: '$1' was not reported"
@@ -43,7 +43,7 @@ bend "ties by the highest number" $plan 's/size_t next = 0;/size_t next = site->
 bend "a byte written behind the answer" $plan 's/    put_plan(\&site, \&plan, room);/    put_plan(\&site, \&plan, room);\n    if (room_len > length)\n        room[length] = 0;/'
 bend "a room of just the length refused" $plan 's/room_len < length/room_len <= length/'
 bend "fast: a tag byte of 7F taken" bench/plain_read.c "s/ | (key_of(high, low) == key_of('7', 'F'))//"
-bend "fast: tags compared over the shorter length" bench/plain_read.c 's/eight_at(sums) + length/eight_at(sums)/;s/ \&\& site->tag_length\[i\] == length//'
+bend "fast: tags compared over the shorter length" bench/plain_read.c 's/eight_at(sums) + length/eight_at(sums) + 0 * length/;s/ \&\& site->tag_length\[i\] == length//'
 bend "fast: a flow whose limit is its source's depth less one left out" bench/plain_plan.c 's/most >= tree->depth\[source\]/most >= tree->depth[source] - 1/'
 bend "fast: a lowered cluster leaves its parent alone" bench/plain_plan.c 's/        lower(n, site->parent\[c\], n\[c\], \&again);//'
 bend "fast: a room of just the length refused" bench/plain_write.c 's/room_len < text_len/room_len <= text_len/'

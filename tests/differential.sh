@@ -6,7 +6,7 @@ set -eu
 cd "$(dirname "$0")/.."
 . tests/build.sh
 compile_plain
-compile differential -Itests -Ibench tests/differential.c tests/generator_site.c tests/generator_text.c \
-    tests/generator_damage.c tests/reference/read.c tests/reference/plan.c tests/reference/plan_text.c \
+compile differential -Itests -Ibench tests/differential.c tests/contest.c tests/generator_site.c \
+    tests/generator_text.c tests/generator_damage.c tests/reference/read.c tests/reference/plan.c tests/reference/plan_text.c \
     tests/reference/brute.c $plain
 run_static target/differential "$@"
