@@ -7,7 +7,8 @@
 #include <string.h>
 
 enum { HEADER = 1, CLUSTER = 2, FLOW = 3, NOTHING = 0 };
-enum { HEADER_DIGITS = 8, TAG = 8, FLOW_DIGITS = 22, MOST_DIGITS = 136, PAIRS = 16, MOST_TAG = 64, NO_PARENT = 0xFF };
+enum { HEADER_DIGITS = 8, TAG = 8, FLOW_DIGITS = 22, MOST_DIGITS = 136 };
+enum { PAIRS = 16, ROW = 8, MOST_TAG = 64, NO_PARENT = 0xFF };
 
 #define EACH(byte) (0x0101010101010101u * (byte))
 #define LONGEST_TIME 1000000000u
@@ -93,7 +94,7 @@ static inline uint16_t tag_print(const uint8_t *digits, size_t length)
     return none ? 0 : print_of(seen.sums, length);
 }
 
-/* A text that is being read, and the fingerprints of the tags so far: 0 for those that are not read. */
+/* A text that is being read, and the fingerprints of the tags so far, with zeros up to a whole row of them. */
 struct reading {
     const uint8_t *text, *end;
     uint16_t prints[MOST_CLUSTERS];
@@ -105,11 +106,14 @@ static inline bool tag_used(const struct reading *reading, const struct plain_si
 {
     const uint8_t *digits = reading->text + site->line[number] + TAG;
     size_t length = site->tag_length[number];
-    uint16_t alike = 0;
+    uint16_t alike[ROW] = {0}, any = 0;
 
-    for (size_t i = 0; i < MOST_CLUSTERS; i++)
-        alike |= reading->prints[i] == print;
-    for (size_t i = 0; alike && i < number; i++)
+    for (size_t row = 0; row < number; row += ROW)
+        for (size_t i = 0; i < ROW; i++)
+            alike[i] |= reading->prints[row + i] == print;
+    for (size_t i = 0; i < ROW; i++)
+        any |= alike[i];
+    for (size_t i = 0; any && i < number; i++)
         if (reading->prints[i] == print && site->tag_length[i] == length &&
             memcmp(reading->text + site->line[i] + TAG, digits, 2 * length) == 0)
             return true;
@@ -183,6 +187,8 @@ static inline const uint8_t *take_cluster(struct reading *reading, const uint8_t
     if (print == 0 || (number == 0 ? parent != NO_PARENT : parent >= number) ||
         tag_used(reading, site, number, print))
         return NULL;
+    if (number % ROW == 0)
+        memset(reading->prints + number, 0, ROW * sizeof *reading->prints);
     reading->prints[number] = print;
     return tag + 2 * length + 1;
 }
@@ -229,7 +235,9 @@ uint32_t plain_read(const uint8_t *text, size_t text_len, struct plain_site *sit
     const uint8_t *end = text + text_len;
     if (!take_header(text, text_len, site))
         return refused(text, end, 1, HEADER, 0);
-    struct reading reading = {text, end, {0}};
+    struct reading reading;
+    reading.text = text;
+    reading.end = end;
     const uint8_t *at = text + HEADER_DIGITS + 1;
     for (size_t c = 0; c < site->clusters; c++) {
         const uint8_t *next = take_cluster(&reading, at, c, site);

@@ -17,8 +17,25 @@ static inline void put_number(uint8_t *room, uint32_t number)
     values = (values | values << 8) & 0x00FF00FF00FF00FF;
     values = (values | values << 4) & EACH(0x0F);
     values += EACH('0') + 7 * ((values + EACH(6)) >> 4 & EACH(0x01));
-    for (unsigned i = 0; i < 8; i++)
-        room[i] = (uint8_t)(values >> (56 - 8 * i));
+    if (__BYTE_ORDER__ == __ORDER_LITTLE_ENDIAN__)
+        values = __builtin_bswap64(values);
+    memcpy(room, &values, 8);
+}
+
+/* Copies five bytes or more, in pieces of which the last overlaps the one before it. */
+static inline void copy(uint8_t *to, const uint8_t *from, size_t length)
+{
+    if (length >= 16) {
+        for (size_t at = 0; at < length - 16; at += 16)
+            memcpy(to + at, from + at, 16);
+        memcpy(to + length - 16, from + length - 16, 16);
+    } else if (length >= 8) {
+        memcpy(to, from, 8);
+        memcpy(to + length - 8, from + length - 8, 8);
+    } else {
+        memcpy(to, from, 4);
+        memcpy(to + length - 4, from + length - 4, 4);
+    }
 }
 
 /* Puts the clusters in sequence: each time the lowest of those that wait for no other. */
@@ -64,7 +81,7 @@ static void put_plan(const uint8_t *text, const struct plain_site *site, unsigne
         put_number(room, 0x82000000u + 65536 * c + (start >> 16));
         put_number(room + 4, start);
         put_number(room + 12, portion);
-        memcpy(room + 20, text + site->line[c] + 6, rest);
+        copy(room + 20, text + site->line[c] + 6, rest);
         room += 20 + rest;
         start += portion;
     }
