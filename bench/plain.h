@@ -1,7 +1,7 @@
 /* docs/FORMATS.md in plain C, written for speed: what bench/run times the library against.
  *
  * plain_plan and plain_rewrite have the contract of cartheron_plan and cartheron_rewrite in cartheron.h: any
- * text, any room, the same number and the same bytes. It shares nothing with the library or tests/reference.
+ * text, any room, the same number and the same bytes. It shares no code with the library or tests/reference.
  */
 #ifndef PLAIN_H
 #define PLAIN_H
