@@ -1,0 +1,72 @@
+#!/bin/bash
+# Installs into an empty folder, and tries there what a C programmer would: the command answers, the
+# example of cartheron(3) compiles as printed with the flags of pkg-config and plans, and the completion
+# completes. Then uninstalls, after which the folder is empty again.
+set -eu
+cd "$(dirname "$0")/.."
+. tests/build.sh
+. tests/need.sh
+need make make
+need pkg-config pkg-config
+need mandoc mandoc
+need python3 python3
+work=$(mktemp -d)
+trap 'rm -rf "$work"' EXIT
+fail() {
+    echo "FAILED: $*"
+    exit 1
+}
+
+example() { # PAGE: the program under EXAMPLES, as a terminal shows it
+    mandoc -T ascii "$1" | python3 -c '
+import re, sys, textwrap
+shown = re.sub(".\b", "", sys.stdin.read())
+program = re.search(r"^EXAMPLES\n.*?^( *#include.*?^ *}\n)\n*^SEE ALSO", shown, re.M | re.S)
+print(textwrap.dedent(program[1]), end="")
+'
+}
+client() { # ROOT PREFIX: builds the example with what is installed there, and runs it
+    local at=$1$2
+    PKG_CONFIG_PATH=$at/lib/pkgconfig PKG_CONFIG_SYSROOT_DIR=$1 pkg-config --cflags --libs cartheron >"$work/flags"
+    example "$at/share/man/man3/cartheron.3" >"$work/example.c"
+    $cc $cflags -static -o "$work/example" "$work/example.c" $(cat "$work/flags")
+    run_static "$work/example" <sites/pump-hall.site >"$work/plan" || fail "the example does not plan"
+    bin/plan sites/pump-hall.site | cmp - "$work/plan" || fail "the example plans otherwise"
+    sed 's/^0200/02ff/' sites/pump-hall.site >"$work/damaged"
+    if run_static "$work/example" <"$work/damaged" 2>"$work/words"; then fail "a damaged site was planned"; fi
+    grep -q '^line 3: refused (1): 02ff' "$work/words" || fail "the example said: $(cat "$work/words")"
+}
+command_answers() { # FILE
+    run_static "$1" --version >/dev/null || fail "the installed command has no version"
+    run_static "$1" plan sites/pump-hall.site | cmp - "$work/plan" || fail "the installed command plans otherwise"
+}
+completes() { # EXPECTED WORD..: what the completion offers for the last word
+    local expected=$1
+    shift
+    COMP_WORDS=("$@") COMP_CWORD=$(($# - 1))
+    _cartheron
+    [ "${COMPREPLY[*]}" = "$expected" ] || fail "completion of '$*' gave '${COMPREPLY[*]}'"
+}
+
+mkdir "$work/root"
+make -s install DESTDIR="$work/root" >/dev/null
+client "$work/root" /usr/local
+command_answers "$work/root/usr/local/bin/cartheron"
+. "$work/root/usr/local/share/bash-completion/completions/cartheron"
+completes "picture" cartheron pi
+completes "plan show site picture rewrite --help --version" cartheron ''
+completes "--json" cartheron show --j
+completes "" cartheron plan --j
+completes "sites/pump-hall.site" cartheron plan sites/pu
+completes "sites/pump-hall.site" cartheron plan -o sites/pu
+make -s uninstall DESTDIR="$work/root"
+[ -z "$(ls -A "$work/root")" ] || fail "uninstalling left $(find "$work/root")"
+
+mkdir "$work/own"
+make -s install PREFIX="$work/own" >/dev/null
+client "" "$work/own"
+grep -q "^prefix=$work/own\$" "$work/own/lib/pkgconfig/cartheron.pc" || fail "another prefix in cartheron.pc"
+touch "$work/own/lib/of-another"
+make -s uninstall PREFIX="$work/own"
+[ "$(cd "$work/own" && find . -type f)" = ./lib/of-another ] || fail "uninstalling left or took $(find "$work/own")"
+echo "install: installed, used and uninstalled, twice"
