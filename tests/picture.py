@@ -71,8 +71,8 @@ def tree_faults(site, picture):
     plot = min(float(bar.get("x")) for bar in bars(picture))
     if any(float(e.get("x")) + LETTER * len(words(e)) > plot for e in shown):
         yield "a tag runs into the bars"
-    depths = {float(e.get("x")): planning.depth(site, c) for e, c in zip(shown, rows(site))}
-    if sorted(depths, key=depths.get) != sorted(depths) or len(depths) != len(set(depths.values())):
+    indents = sorted({(planning.depth(site, c), float(e.get("x"))) for e, c in zip(shown, rows(site))})
+    if any(deeper[1] - higher[1] < 8 or deeper[0] == higher[0] for higher, deeper in zip(indents, indents[1:])):
         yield "the indentation is not the depth"
 
 
@@ -97,6 +97,10 @@ def bar_faults(site, starts, picture):
         for place, length in ("x", "width"), ("y", "height"):
             if float(box.get(place)) + float(box.get(length)) > float(picture.get(length)):
                 yield "a box lies outside the picture"
+    for ring in picture.iter(SVG + "circle"):
+        for place, length in ("cx", "width"), ("cy", "height"):
+            if not 0 <= float(ring.get(place)) <= float(picture.get(length)) - 8:
+                yield "a flow's end lies outside the picture"
 
 
 def flow_faults(site, interval, starts, picture):
