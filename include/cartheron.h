@@ -12,7 +12,8 @@
  * call. In particular a refusal leaves the room as it was, and an answer fills its first bytes and
  * leaves those behind it. Not covered by the proofs: the compiler's back end and the calling C code.
  *
- * Link with target/staticlib/libcommission.a (bin/library makes it). It is x86-64 code.
+ * Link with libcartheron.a where it is installed (pkg-config --cflags --libs cartheron), else with
+ * target/staticlib/libcommission.a, which bin/library makes. It is x86-64 code.
  */
 #ifndef CARTHERON_H
 #define CARTHERON_H

@@ -50,6 +50,17 @@ completes() { # EXPECTED WORD..: what the completion offers for the last word
 
 mkdir "$work/root"
 make -s install DESTDIR="$work/root" >/dev/null
+(cd "$work/root/usr/local" && find . ! -type d -printf '%m %P\n' | LC_ALL=C sort -k 2) | diff - /dev/fd/3 3<<'FILES' ||
+755 bin/cartheron
+644 include/cartheron.h
+644 lib/libcartheron.a
+644 lib/pkgconfig/cartheron.pc
+644 share/bash-completion/completions/cartheron
+644 share/man/man1/cartheron.1
+644 share/man/man3/cartheron.3
+644 share/man/man5/cartheron.5
+FILES
+    fail "other files are installed"
 client "$work/root" /usr/local
 command_answers "$work/root/usr/local/bin/cartheron"
 . "$work/root/usr/local/share/bash-completion/completions/cartheron"
