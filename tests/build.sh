@@ -6,14 +6,13 @@
 . bin/kit
 mkdir -p target
 library=target/staticlib/libcommission.a
-if [ ! -f "$library" ] || [ ! -f target/include/cartheron.h ] ||
-    [ -n "$(find crates crates.txt include bin/library -newer "$library" -type f | head -n 1)" ]; then
+if [ ! -f target/include/cartheron.h ] || stale "$library" crates crates.txt include bin/library; then
     bin/library >target/library.log 2>&1 || {
         tail -n 20 target/library.log
         exit 1
     }
 fi
-if [ "$(uname -m)" = x86_64 ]; then cc=cc; else cc=x86_64-linux-gnu-gcc; fi
+cc=$x86_cc
 cflags="-std=c11 -O2 -Wall -Wextra -Werror"
 compile() {
     program=target/$1

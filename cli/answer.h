@@ -1,0 +1,25 @@
+/* From a site text to what a command prints, without files. */
+#ifndef CLI_ANSWER_H
+#define CLI_ANSWER_H
+
+#include "arguments.h"
+#include "digits.h"
+
+#include <stdio.h>
+
+enum status { ANSWERED = 0, REFUSED = 1, FAILED = 2 };
+
+/* A text, what it is called in words, and what is wanted of it. */
+struct request {
+    enum command command;
+    int json;
+    int colour_out, colour_words;
+    const char *name;
+    struct part text;
+};
+
+/* Prints what a command gives for a text, or tells why it is refused; to the other file nothing is written.
+ * FAILED where writing fails. */
+enum status answer(FILE *out, FILE *words, const struct request *request);
+
+#endif

@@ -1,0 +1,216 @@
+/* Where in its line a refusal lies. */
+#include "fault.h"
+#include "model.h"
+
+#include <stdio.h>
+#include <string.h>
+
+#define LONGEST_TIME 1000000000u
+
+/* The largest value of a source or a sink is the last cluster, which the header gives. */
+#define LAST_CLUSTER UINT32_MAX
+
+/* A field of a record and its range; the parent, whose refusal is 5, and the tag have none. */
+struct field {
+    enum kind kind;
+    const char *name;
+    size_t byte, bytes;
+    uint32_t least, most;
+};
+
+static const struct field fields[] = {
+    {HEADER_LINE, "the version", 1, 1, 1, 1},
+    {HEADER_LINE, "the number of clusters", 2, 1, 1, MOST_CLUSTERS},
+    {HEADER_LINE, "the number of flows", 3, 1, 0, MOST_FLOWS},
+    {CLUSTER_LINE, "the superframe order", 2, 1, 0, 14},
+    {CLUSTER_LINE, "the tag length", 3, 1, 1, MOST_TAG},
+    {FLOW_LINE, "the source", 1, 1, 0, LAST_CLUSTER},
+    {FLOW_LINE, "the sink", 2, 1, 0, LAST_CLUSTER},
+    {FLOW_LINE, "the required period", 3, 4, 1, LONGEST_TIME},
+    {FLOW_LINE, "the deadline", 7, 4, 1, LONGEST_TIME},
+};
+
+static const char *const kind_names[] = {
+    [HEADER_LINE] = "the header, 01,",
+    [CLUSTER_LINE] = "a cluster, 02,",
+    [FLOW_LINE] = "a flow, 03,",
+};
+
+struct part line_of(struct part text, uint32_t line_number)
+{
+    size_t start = cartheron_line_start(text.bytes, text.length, line_number);
+    struct part line = {text.bytes + start, cartheron_line_length(text.bytes, text.length, line_number)};
+
+    return line;
+}
+
+/* The clusters that the header says. It was accepted where another line is refused. */
+static uint32_t clusters_of(struct part text)
+{
+    return number_at(text.bytes, 2, 1);
+}
+
+/* The kind that is due at a line. */
+static enum kind kind_due(struct part text, uint32_t line_number)
+{
+    if (line_number == 1)
+        return HEADER_LINE;
+    uint32_t last_cluster = 1 + clusters_of(text), last = last_cluster + number_at(text.bytes, 3, 1);
+    if (line_number <= last_cluster)
+        return CLUSTER_LINE;
+    return line_number <= last ? FLOW_LINE : NO_LINE;
+}
+
+/* 1: the first character that is no digit; a digit too many or one too few; no LF. */
+static void not_a_line(struct fault *fault, struct part line)
+{
+    size_t i = 0;
+
+    while (i < line.length && i < MOST_DIGITS && digit(line.bytes[i]) >= 0)
+        i++;
+    fault->column = i;
+    if (i == MOST_DIGITS && line.length > MOST_DIGITS)
+        snprintf(fault->words, sizeof fault->words, "the line has more than %d digits", MOST_DIGITS);
+    else if (i < line.length && line.bytes[i] >= 'a' && line.bytes[i] <= 'f')
+        snprintf(fault->words, sizeof fault->words, "'%c' is lower case", line.bytes[i]);
+    else if (i < line.length && line.bytes[i] > 0x20 && line.bytes[i] < 0x7F)
+        snprintf(fault->words, sizeof fault->words, "'%c' is no digit", line.bytes[i]);
+    else if (i < line.length)
+        snprintf(fault->words, sizeof fault->words, "byte %02X is no digit", line.bytes[i]);
+    else if (line.length == 0)
+        snprintf(fault->words, sizeof fault->words, "the line is empty");
+    else if (line.length % 2 != 0)
+        snprintf(fault->words, sizeof fault->words, "the line has an odd number of digits");
+    else
+        snprintf(fault->words, sizeof fault->words, "the text ends without LF");
+}
+
+/* 2: another kind than the one that is due, or a line where none is. An empty line that is there is 1, so
+ * an empty part is that of a missing line. */
+static void wrong_kind(struct fault *fault, struct part text, struct part line, uint32_t line_number)
+{
+    enum kind due = kind_due(text, line_number);
+
+    fault->missing = line.length == 0;
+    if (due == NO_LINE)
+        snprintf(fault->words, sizeof fault->words, "no line is due behind %u clusters and %u flows",
+                 (unsigned)clusters_of(text), (unsigned)number_at(text.bytes, 3, 1));
+    else if (fault->missing)
+        snprintf(fault->words, sizeof fault->words, "the text ends, and %s is due", kind_names[due]);
+    else
+        snprintf(fault->words, sizeof fault->words, "%s is due, not %02X", kind_names[due],
+                 (unsigned)number_at(line.bytes, 0, 1));
+}
+
+/* 3: the first byte too many, or the place of the first that is missing. */
+static void wrong_length(struct fault *fault, struct part line)
+{
+    size_t has = line.length / 2, wanted = HEADER_BYTES;
+
+    if (number_at(line.bytes, 0, 1) == FLOW_LINE)
+        wanted = FLOW_BYTES;
+    else if (number_at(line.bytes, 0, 1) == CLUSTER_LINE)
+        wanted = CLUSTER_BYTES + (has < CLUSTER_BYTES ? 0 : (size_t)number_at(line.bytes, 3, 1));
+    fault->column = 2 * (has < wanted ? has : wanted);
+    if (number_at(line.bytes, 0, 1) == CLUSTER_LINE && has >= CLUSTER_BYTES)
+        snprintf(fault->words, sizeof fault->words, "with a tag of %zu bytes it has %zu bytes, not %zu",
+                 wanted - CLUSTER_BYTES, wanted, has);
+    else
+        snprintf(fault->words, sizeof fault->words, "it has %s%zu bytes, not %zu",
+                 number_at(line.bytes, 0, 1) == CLUSTER_LINE ? "at least " : "", wanted, has);
+}
+
+/* 4 in a tag: its first byte outside 21 to 7E. */
+static void tag_out_of_range(struct fault *fault, struct part line)
+{
+    size_t k = CLUSTER_BYTES, end = line.length / 2;
+
+    while (k + 1 < end && number_at(line.bytes, k, 1) >= 0x21 && number_at(line.bytes, k, 1) <= 0x7E)
+        k++;
+    fault->column = 2 * k;
+    snprintf(fault->words, sizeof fault->words, "a tag byte is %02X, not 21 to 7E",
+             (unsigned)number_at(line.bytes, k, 1));
+}
+
+/* 4: the first field of the record that is outside its range. */
+static void out_of_range(struct fault *fault, struct part text, struct part line, uint32_t line_number)
+{
+    enum kind kind = kind_due(text, line_number);
+
+    for (size_t i = 0; i < sizeof fields / sizeof fields[0]; i++) {
+        const struct field *field = &fields[i];
+        if (field->kind != kind)
+            continue;
+        uint32_t value = number_at(line.bytes, field->byte, field->bytes);
+        uint32_t most = field->most == LAST_CLUSTER ? clusters_of(text) - 1 : field->most;
+        if (value >= field->least && value <= most)
+            continue;
+        fault->column = 2 * field->byte;
+        if (field->least == most)
+            snprintf(fault->words, sizeof fault->words, "%s is %u, not %u", field->name, (unsigned)value,
+                     (unsigned)most);
+        else
+            snprintf(fault->words, sizeof fault->words, "%s is %u, not %u to %u", field->name, (unsigned)value,
+                     (unsigned)field->least, (unsigned)most);
+        return;
+    }
+    tag_out_of_range(fault, line);
+}
+
+/* 5: the parent of the cluster in a line. */
+static void wrong_parent(struct fault *fault, struct part line, uint32_t line_number)
+{
+    unsigned parent = (unsigned)number_at(line.bytes, 1, 1), cluster = (unsigned)line_number - 2;
+
+    fault->column = 2 * 1;
+    if (cluster == 0)
+        snprintf(fault->words, sizeof fault->words, "this is the root, and its parent is %02X", parent);
+    else if (parent == NO_PARENT)
+        snprintf(fault->words, sizeof fault->words, "this is cluster %u, and only the root has parent FF", cluster);
+    else
+        snprintf(fault->words, sizeof fault->words, "this is cluster %u, and its parent is %u", cluster, parent);
+}
+
+/* 6: the earlier cluster with the tag. The record from its tag length on is the same. */
+static void tag_used(struct fault *fault, struct part text, struct part line, uint32_t line_number)
+{
+    uint32_t earlier = 2;
+    size_t from = 2 * (CLUSTER_BYTES - 1);
+
+    for (; earlier + 1 < line_number; earlier++) {
+        struct part other = line_of(text, earlier);
+        if (other.length == line.length && memcmp(other.bytes + from, line.bytes + from, line.length - from) == 0)
+            break;
+    }
+    fault->column = 2 * CLUSTER_BYTES;
+    snprintf(fault->words, sizeof fault->words, "cluster %u, in line %u", (unsigned)earlier - 2, (unsigned)earlier);
+}
+
+void find_fault(struct fault *fault, enum cartheron_refusal number, struct part text, uint32_t line_number)
+{
+    struct part line = line_of(text, line_number);
+
+    memset(fault, 0, sizeof *fault);
+    switch (number) {
+    case CARTHERON_NOT_A_LINE:
+        not_a_line(fault, line);
+        break;
+    case CARTHERON_WRONG_KIND:
+        wrong_kind(fault, text, line, line_number);
+        break;
+    case CARTHERON_WRONG_LENGTH:
+        wrong_length(fault, line);
+        break;
+    case CARTHERON_OUT_OF_RANGE:
+        out_of_range(fault, text, line, line_number);
+        break;
+    case CARTHERON_WRONG_PARENT:
+        wrong_parent(fault, line, line_number);
+        break;
+    case CARTHERON_TAG_USED:
+        tag_used(fault, text, line, line_number);
+        break;
+    default:
+        break;
+    }
+}

@@ -1,0 +1,21 @@
+/* Where in its line a refusal lies, and what exactly is wrong there. Number and line come from the library;
+ * the place in the line is worked out here, after docs/FORMATS.md. */
+#ifndef CLI_FAULT_H
+#define CLI_FAULT_H
+
+#include "cartheron.h"
+#include "digits.h"
+
+struct fault {
+    int missing;      /* the line is not there: the text ends before it */
+    size_t column;    /* the character at fault, or the place behind the line where one is missing */
+    char words[200];
+};
+
+/* The fault of a line of a text that was refused by 1 to 6. */
+void find_fault(struct fault *fault, enum cartheron_refusal number, struct part text, uint32_t line_number);
+
+/* The part of a text that is shown for a line. */
+struct part line_of(struct part text, uint32_t line_number);
+
+#endif

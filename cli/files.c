@@ -1,0 +1,77 @@
+/* Files, read no further than needed; standard output. */
+#define _POSIX_C_SOURCE 200809L
+#include "files.h"
+
+#include <errno.h>
+#include <fcntl.h>
+#include <signal.h>
+#include <unistd.h>
+
+/* A standard file that is closed is opened so that using it fails: 0 for writing, the others for reading. */
+static int hold_open(int fd)
+{
+    if (fcntl(fd, F_GETFD) != -1 || errno != EBADF)
+        return 0;
+    int held = open("/dev/null", fd == STDIN_FILENO ? O_WRONLY : O_RDONLY);
+    return held == fd ? 0 : -1;
+}
+
+int prepare_files(void)
+{
+    if (signal(SIGPIPE, SIG_IGN) == SIG_ERR || signal(SIGXFSZ, SIG_IGN) == SIG_ERR)
+        return -1;
+    for (int fd = STDIN_FILENO; fd <= STDERR_FILENO; fd++)
+        if (hold_open(fd) != 0)
+            return -1;
+    return 0;
+}
+
+/* Reads from an open file to its end or to MOST_READ bytes. */
+static int read_all(int fd, uint8_t bytes[MOST_READ], size_t *length)
+{
+    *length = 0;
+    while (*length < MOST_READ) {
+        ssize_t got = read(fd, bytes + *length, MOST_READ - *length);
+        if (got == 0)
+            return 0;
+        if (got > 0)
+            *length += (size_t)got;
+        else if (errno != EINTR)
+            return -1;
+    }
+    return 0;
+}
+
+int read_file(const char *file, uint8_t bytes[MOST_READ], size_t *length)
+{
+    if (file == NULL)
+        return read_all(STDIN_FILENO, bytes, length);
+    int fd = open(file, O_RDONLY | O_NOCTTY | O_CLOEXEC);
+    if (fd == -1)
+        return -1;
+    int ended = read_all(fd, bytes, length), why = errno;
+    close(fd);
+    errno = why;
+    return ended;
+}
+
+int write_all(int fd, const char *bytes, size_t length)
+{
+    while (length > 0) {
+        ssize_t put = write(fd, bytes, length);
+        if (put == -1 && errno == EINTR)
+            continue;
+        if (put <= 0)
+            return -1;
+        bytes += put;
+        length -= (size_t)put;
+    }
+    return 0;
+}
+
+int write_output(const char *bytes, size_t length)
+{
+    if (write_all(STDOUT_FILENO, bytes, length) != 0)
+        return -1;
+    return close(STDOUT_FILENO);
+}

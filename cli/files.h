@@ -1,0 +1,29 @@
+/* Files, read no further than needed and written whole or not at all. */
+#ifndef CLI_FILES_H
+#define CLI_FILES_H
+
+#include <stddef.h>
+#include <stdint.h>
+
+/* The verdict on a text rests on its first so many bytes (docs/FORMATS.md, "The program and the C functions"). */
+#define MOST_READ 11859
+
+/* Sees to it that no file which is opened takes the place of a standard one that is closed, and that a closed
+ * pipe or a full quota is an error and does not end the program. Returns 0, or -1 with errno. */
+int prepare_files(void);
+
+/* Reads a file, NULL for standard input, to its end or to MOST_READ bytes. Returns 0, or -1 with errno. */
+int read_file(const char *file, uint8_t bytes[MOST_READ], size_t *length);
+
+/* Writes all bytes to an open file. Returns 0, or -1 with errno. */
+int write_all(int fd, const char *bytes, size_t length);
+
+/* Writes standard output whole and closes it. Returns 0, or -1 with errno. */
+int write_output(const char *bytes, size_t length);
+
+/* Makes a file hold just these bytes, all or nothing: they are written into a temporary file in the same
+ * folder, which then takes the file's name. A device or a pipe is written to as it is. Returns 0, or -1
+ * with errno, and the file is as it was. */
+int write_file(const char *file, const char *bytes, size_t length);
+
+#endif

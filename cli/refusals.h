@@ -1,0 +1,10 @@
+/* The refusals in words: the one table that everything the command says of them is taken from. */
+#ifndef CLI_REFUSALS_H
+#define CLI_REFUSALS_H
+
+#include "cartheron.h"
+
+/* What a refusal says, without a full stop. */
+const char *refusal_words(enum cartheron_refusal number);
+
+#endif
