@@ -31,9 +31,9 @@ static const struct field fields[] = {
 };
 
 static const char *const kind_names[] = {
-    [HEADER_LINE] = "the header, 01,",
-    [CLUSTER_LINE] = "a cluster, 02,",
-    [FLOW_LINE] = "a flow, 03,",
+    [HEADER_LINE] = "the header",
+    [CLUSTER_LINE] = "a cluster",
+    [FLOW_LINE] = "a flow",
 };
 
 struct part line_of(struct part text, uint32_t line_number)
@@ -62,8 +62,9 @@ static enum kind kind_due(struct part text, uint32_t line_number)
 }
 
 /* 1: the first character that is no digit; a digit too many or one too few; no LF. */
-static void not_a_line(struct fault *fault, struct part line)
+static void not_a_line(struct fault *fault, struct part text, struct part line)
 {
+    int ended = line.bytes + line.length < text.bytes + text.length;
     size_t i = 0;
 
     while (i < line.length && i < MOST_DIGITS && digit(line.bytes[i]) >= 0)
@@ -77,12 +78,12 @@ static void not_a_line(struct fault *fault, struct part line)
         snprintf(fault->words, sizeof fault->words, "'%c' is no digit", line.bytes[i]);
     else if (i < line.length)
         snprintf(fault->words, sizeof fault->words, "byte %02X is no digit", line.bytes[i]);
+    else if (!ended)
+        snprintf(fault->words, sizeof fault->words, "the text ends inside the line, without LF");
     else if (line.length == 0)
         snprintf(fault->words, sizeof fault->words, "the line is empty");
-    else if (line.length % 2 != 0)
-        snprintf(fault->words, sizeof fault->words, "the line has an odd number of digits");
     else
-        snprintf(fault->words, sizeof fault->words, "the text ends without LF");
+        snprintf(fault->words, sizeof fault->words, "the line has an odd number of digits");
 }
 
 /* 2: another kind than the one that is due, or a line where none is. An empty line that is there is 1, so
@@ -96,28 +97,31 @@ static void wrong_kind(struct fault *fault, struct part text, struct part line, 
         snprintf(fault->words, sizeof fault->words, "no line is due behind %u clusters and %u flows",
                  (unsigned)clusters_of(text), (unsigned)number_at(text.bytes, 3, 1));
     else if (fault->missing)
-        snprintf(fault->words, sizeof fault->words, "the text ends, and %s is due", kind_names[due]);
+        snprintf(fault->words, sizeof fault->words, "the text ends, and %s (%02X) is due", kind_names[due], (unsigned)due);
     else
-        snprintf(fault->words, sizeof fault->words, "%s is due, not %02X", kind_names[due],
+        snprintf(fault->words, sizeof fault->words, "%s (%02X) is due, not %02X", kind_names[due], (unsigned)due,
                  (unsigned)number_at(line.bytes, 0, 1));
 }
 
-/* 3: the first byte too many, or the place of the first that is missing. */
+/* 3: the first byte too many, or the place of the first that is missing. The kind is the one that is due, and
+ * a cluster of fewer than 4 bytes has no tag length. */
 static void wrong_length(struct fault *fault, struct part line)
 {
-    size_t has = line.length / 2, wanted = HEADER_BYTES;
+    enum kind kind = (enum kind)number_at(line.bytes, 0, 1);
+    size_t has = line.length / 2, wanted = kind == FLOW_LINE ? FLOW_BYTES : HEADER_BYTES;
+    const char *at_least = "";
+    char tag[40] = "";
 
-    if (number_at(line.bytes, 0, 1) == FLOW_LINE)
-        wanted = FLOW_BYTES;
-    else if (number_at(line.bytes, 0, 1) == CLUSTER_LINE)
-        wanted = CLUSTER_BYTES + (has < CLUSTER_BYTES ? 0 : (size_t)number_at(line.bytes, 3, 1));
+    if (kind == CLUSTER_LINE && has < CLUSTER_BYTES) {
+        wanted = CLUSTER_BYTES;
+        at_least = "at least ";
+    } else if (kind == CLUSTER_LINE) {
+        wanted = CLUSTER_BYTES + (size_t)number_at(line.bytes, 3, 1);
+        snprintf(tag, sizeof tag, " with a tag of %zu", wanted - CLUSTER_BYTES);
+    }
     fault->column = 2 * (has < wanted ? has : wanted);
-    if (number_at(line.bytes, 0, 1) == CLUSTER_LINE && has >= CLUSTER_BYTES)
-        snprintf(fault->words, sizeof fault->words, "with a tag of %zu bytes it has %zu bytes, not %zu",
-                 wanted - CLUSTER_BYTES, wanted, has);
-    else
-        snprintf(fault->words, sizeof fault->words, "it has %s%zu bytes, not %zu",
-                 number_at(line.bytes, 0, 1) == CLUSTER_LINE ? "at least " : "", wanted, has);
+    snprintf(fault->words, sizeof fault->words, "%s%s has %s%zu bytes, this line has %zu", kind_names[kind], tag,
+             at_least, wanted, has);
 }
 
 /* 4 in a tag: its first byte outside 21 to 7E. */
@@ -193,7 +197,7 @@ void find_fault(struct fault *fault, enum cartheron_refusal number, struct part 
     memset(fault, 0, sizeof *fault);
     switch (number) {
     case CARTHERON_NOT_A_LINE:
-        not_a_line(fault, line);
+        not_a_line(fault, text, line);
         break;
     case CARTHERON_WRONG_KIND:
         wrong_kind(fault, text, line, line_number);

@@ -71,7 +71,13 @@ int write_all(int fd, const char *bytes, size_t length)
 
 int write_output(const char *bytes, size_t length)
 {
-    if (write_all(STDOUT_FILENO, bytes, length) != 0)
+    int fd = dup(STDOUT_FILENO);
+
+    if (fd == -1)
         return -1;
-    return close(STDOUT_FILENO);
+    int ended = write_all(fd, bytes, length), why = errno;
+    if (close(fd) != 0 && ended == 0)
+        return -1;
+    errno = why;
+    return ended;
 }

@@ -18,7 +18,7 @@ int read_file(const char *file, uint8_t bytes[MOST_READ], size_t *length);
 /* Writes all bytes to an open file. Returns 0, or -1 with errno. */
 int write_all(int fd, const char *bytes, size_t length);
 
-/* Writes standard output whole and closes it. Returns 0, or -1 with errno. */
+/* Writes standard output whole. Returns 0, or -1 with errno: also where only closing it tells of a failure. */
 int write_output(const char *bytes, size_t length);
 
 /* Makes a file hold just these bytes, all or nothing: they are written into a temporary file in the same

@@ -19,7 +19,7 @@ void print_ms(FILE *out, uint32_t symbols, int columns)
 
 void print_time(FILE *out, uint32_t symbols)
 {
-    fprintf(out, "%u symbols = ", (unsigned)symbols);
+    fprintf(out, "%u symbol%s = ", (unsigned)symbols, symbols == 1 ? "" : "s");
     print_ms(out, symbols, 0);
     fputs(" ms", out);
 }

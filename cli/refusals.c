@@ -2,7 +2,7 @@
 #include "refusals.h"
 
 static const char *const table[] = {
-    [CARTHERON_NOT_A_LINE] = "not a line of digits 0-9 and A-F in pairs, at most 136 of them, that ends in LF",
+    [CARTHERON_NOT_A_LINE] = "not a line of digits 0-9 and A-F in pairs",
     [CARTHERON_WRONG_KIND] = "not the line that is due",
     [CARTHERON_WRONG_LENGTH] = "the record is not as long as its kind",
     [CARTHERON_OUT_OF_RANGE] = "a field is outside its range",

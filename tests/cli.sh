@@ -1,0 +1,46 @@
+#!/bin/sh
+# Tries the command cartheron: its stored cases, its files, its JSON, and its functions on the comparison's texts.
+# Then the same of cli/ compiled natively with the address and undefined-behaviour sanitizers: with the library on
+# x86-64, and elsewhere with the plain C of tests/reference in its place.
+set -eu
+cd "$(dirname "$0")/.."
+. tests/build.sh
+functions=$(ls cli/*.c | grep -v '^cli/main\.c$')
+texts="tests/cli_texts.c tests/generator_site.c tests/generator_text.c tests/generator_damage.c tests/reference/brute.c"
+
+echo "cli: the analyzer of gcc"
+for file in cli/*.c; do
+    cc -std=c11 -O2 -Wall -Wextra -Werror -fanalyzer -Iinclude -c -o target/analyzed.o "$file"
+done
+
+bin/cartheron --version
+if [ -x "$kit_tools/bin/qemu-x86_64" ]; then run="$kit_tools/bin/qemu-x86_64 target/cartheron"; else run=target/cartheron; fi
+tests/cli_cases.sh target/cli.cases $run
+python3 tests/cli_files.py $run
+for site in pump-hall tank-farm; do
+    $run picture sites/$site.site | python3 -c 'import sys, xml.etree.ElementTree as xml; xml.parse(sys.stdin)'
+done
+compile cli_texts -Itests $texts $functions
+run_static target/cli_texts
+run_static target/cli_texts --json 2 300 | python3 tests/cli_json.py $run
+
+echo "cli: with the sanitizers"
+if [ "$(uname -m)" = x86_64 ]; then
+    planner=$library
+else
+    planner="tests/cli_stand_in.c tests/reference/read.c tests/reference/plan.c"
+fi
+sanitize() { # PROGRAM FILE..
+    program=target/$1
+    shift
+    cc -std=c11 -g -O1 -Wall -Wextra -Werror -fsanitize=address,undefined -fno-sanitize-recover=all \
+        -Iinclude -Itests -o "$program" "$@" $planner
+}
+# Leaks are looked for in cli_texts; in the command, which ends at once, they do not matter.
+sanitize cli_texts.sanitized $texts $functions
+target/cli_texts.sanitized
+sanitize cartheron.sanitized cli/*.c
+ASAN_OPTIONS=detect_leaks=0
+export ASAN_OPTIONS
+tests/cli_cases.sh target/cli.sanitized target/cartheron.sanitized
+python3 tests/cli_files.py target/cartheron.sanitized

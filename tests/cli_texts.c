@@ -1,0 +1,178 @@
+/* Runs the command's functions on the comparison's texts, sound and damaged. What plan and rewrite print has to
+ * be what the library answers for the whole text, and a refusal has to be told with its number and its line.
+ *   cli_texts [SEED [COUNT]]       seed 1 and 20,000 texts unless given
+ *   cli_texts --json SEED COUNT    prints the accepted texts and what show and site print of them as JSON
+ */
+#define _POSIX_C_SOURCE 200809L
+#include "../cli/answer.h"
+#include "../cli/files.h"
+#include "cartheron.h"
+#include "generator.h"
+
+#include <inttypes.h>
+#include <stdlib.h>
+#include <string.h>
+
+#define LEAST_SEEN 20
+#define REFUSALS 9
+
+static const struct {
+    enum command command;
+    int json;
+} prints[] = {{PLAN, 0}, {SHOW, 0}, {SHOW, 1}, {SITE, 0}, {SITE, 1}, {PICTURE, 0}, {REWRITE, 0}};
+
+/* What a command printed, on standard output and on standard error. */
+struct printed {
+    enum status status;
+    char *out, *words;
+    size_t out_length, words_length;
+};
+
+static struct text text;
+static uint64_t seed, number;
+
+static _Noreturn void give_up(const char *why)
+{
+    print_text(&text);
+    printf("cli_texts: text %" PRIu64 " of seed %" PRIu64 ": %s\n", number, seed, why);
+    exit(1);
+}
+
+static void check(bool holds, const char *why)
+{
+    if (!holds)
+        give_up(why);
+}
+
+/* Runs a command on the part of the text that it would read, in a heap block of just that length. */
+static struct printed run(enum command command, int json, int colour)
+{
+    size_t length = text.length < MOST_READ ? text.length : MOST_READ;
+    uint8_t *block = malloc(length > 0 ? length : 1);
+    struct printed printed = {0};
+    FILE *out = open_memstream(&printed.out, &printed.out_length);
+    FILE *words = open_memstream(&printed.words, &printed.words_length);
+
+    if (block == NULL || out == NULL || words == NULL)
+        exit(2);
+    memcpy(block, text.bytes, length);
+    struct request request = {command, json, colour, colour, "text", {block, length}};
+    printed.status = answer(out, words, &request);
+    fclose(out);
+    fclose(words);
+    free(block);
+    return printed;
+}
+
+static void forget(struct printed *printed)
+{
+    free(printed->out);
+    free(printed->words);
+}
+
+/* A refusal begins with its line and number, and all of it is printable. One at a line that is there ends in
+ * a caret that stands under the line or just behind it. */
+static void check_words(const struct printed *printed, uint32_t answer)
+{
+    char head[64], at_line[16] = "";
+    uint32_t line = CARTHERON_LINE(answer);
+    size_t shown = cartheron_line_length(text.bytes, text.length, line);
+
+    if (line != 0)
+        snprintf(at_line, sizeof at_line, ":%" PRIu32, line);
+    snprintf(head, sizeof head, "text%s: refused (%d): ", at_line, (int)CARTHERON_NUMBER(answer));
+    check(strncmp(printed->words, head, strlen(head)) == 0, "a refusal with another number or line");
+    for (size_t i = 0; i < printed->words_length; i++)
+        check(printed->words[i] == '\n' || (printed->words[i] >= 0x20 && printed->words[i] < 0x7F),
+              "a byte in the words that is not printable");
+    check(printed->words[printed->words_length - 1] == '\n', "words that do not end a line");
+    const char *caret = strstr(printed->words, "\n    |");
+    bool there = line != 0 && !(CARTHERON_NUMBER(answer) == CARTHERON_WRONG_KIND && shown == 0);
+    check((caret != NULL) == there, "a caret where no line is shown, or none where one is");
+    if (caret == NULL)
+        return;
+    size_t column = strspn(caret + 6, " ");
+    check(caret[6 + column] == '^' && column <= shown && column <= 136, "a caret in another place");
+}
+
+/* Checks what a command printed against the library's answer for the whole text. */
+static void check_print(size_t print, uint32_t answer, const uint8_t *room)
+{
+    struct printed printed = run(prints[print].command, prints[print].json, 0);
+
+    if (CARTHERON_REFUSED(answer)) {
+        check(printed.status == REFUSED && printed.out_length == 0, "something printed for a refusal");
+        check_words(&printed, answer);
+    } else {
+        check(printed.status == ANSWERED && printed.words_length == 0, "words for an answer");
+        check(printed.out_length > 0, "an empty answer");
+        if (prints[print].command == PLAN || prints[print].command == REWRITE)
+            check(printed.out_length == answer && memcmp(printed.out, room, answer) == 0, "another answer");
+    }
+    forget(&printed);
+}
+
+/* Checks all commands on the text. Returns what planning it answers. */
+static uint32_t check_text(void)
+{
+    uint8_t plan_room[CARTHERON_LONGEST_PLAN], site_room[CARTHERON_LONGEST_SITE];
+    uint32_t plan = cartheron_plan(text.bytes, text.length, plan_room, sizeof plan_room);
+    uint32_t site = cartheron_rewrite(text.bytes, text.length, site_room, sizeof site_room);
+
+    for (size_t i = 0; i < sizeof prints / sizeof prints[0]; i++) {
+        bool reads_only = prints[i].command == SITE || prints[i].command == REWRITE;
+        check_print(i, reads_only ? site : plan, reads_only ? site_room : plan_room);
+    }
+    struct printed coloured = run(SHOW, 0, 1);
+    check(coloured.status == (CARTHERON_REFUSED(plan) ? REFUSED : ANSWERED), "another status with colour");
+    forget(&coloured);
+    return plan;
+}
+
+/* Prints the text as a JSON string, and the two answers behind it. */
+static void print_json(void)
+{
+    struct printed show = run(SHOW, 1, 0), site = run(SITE, 1, 0);
+
+    if (site.status == ANSWERED) {
+        printf("\"");
+        for (size_t i = 0; i < text.length; i++)
+            printf(text.bytes[i] == '\n' ? "\\n" : "%c", text.bytes[i]);
+        printf("\"\n%s%s", site.out, show.status == ANSWERED ? show.out : "null\n");
+    }
+    forget(&show);
+    forget(&site);
+}
+
+static void make(uint64_t next)
+{
+    number = next;
+    struct dice dice = dice_of(seed, number);
+    make_text(&dice, &text);
+}
+
+int main(int argc, char **argv)
+{
+    uint64_t seen[REFUSALS + 1] = {0};
+    bool json = argc == 4 && strcmp(argv[1], "--json") == 0;
+
+    seed = argc > 1 ? strtoull(argv[json ? 2 : 1], NULL, 10) : 1;
+    uint64_t count = argc > 2 ? strtoull(argv[json ? 3 : 2], NULL, 10) : 20000;
+    for (uint64_t next = 0; next < count; next++) {
+        make(next);
+        if (json)
+            print_json();
+        else
+            seen[check_text() >> 16]++;
+    }
+    if (json)
+        return 0;
+    for (size_t i = 0; i < REFUSALS; i++)
+        if (seen[i] < LEAST_SEEN && count >= 20000) {
+            printf("cli_texts: answer %zu was seen %" PRIu64 " times\n", i, seen[i]);
+            return 1;
+        }
+    printf("cli_texts: the command agrees on %" PRIu64 " texts (seed %" PRIu64 "), %" PRIu64 " of them planned\n",
+           count, seed, seen[0]);
+    return 0;
+}
