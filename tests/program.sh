@@ -1,6 +1,6 @@
 #!/bin/sh
-# Runs bin/plan as a person would and compares it with the independent planner of planning.py: over the
-# stored sites, by file and from standard input, over a text that is far too long, through short reads.
+# Runs bin/plan as a script would and compares it with the independent planner of planning.py: over the stored
+# sites, by file and from standard input, over texts that are far too long or never end, through short reads.
 set -eu
 cd "$(dirname "$0")/.."
 work=$(mktemp -d)
@@ -25,15 +25,14 @@ agrees() { # STATUS FILE: bin/plan on the file, which has to end so
     status=0
     bin/plan "$2" >"$work/out" 2>"$work/err" || status=$?
     [ "$status" -eq "$1" ] || fail "bin/plan $2: exit status $status, not $1: $(cat "$work/err")"
+    [ ! -s "$work/err" ] || fail "bin/plan $2 has words of its own: $(cat "$work/err")"
     cmp "$work/expected" "$work/out" || fail "bin/plan $2 printed something else"
 }
 
 agrees 0 sites/pump-hall.site
 agrees 0 sites/tank-farm.site
 agrees 1 sites/raw-water-no-fit.site
-grep -q 'refused (7)' "$work/err" || fail "refusal 7 in words"
 agrees 1 sites/boiler-house-late.site
-grep -q 'refused (8)' "$work/err" || fail "refusal 8 in words"
 
 bin/plan <sites/pump-hall.site >"$work/out"
 expected sites/pump-hall.site | cmp - "$work/out" || fail "a site on standard input"
@@ -46,8 +45,28 @@ agrees 1 "$work/empty"
 agrees 1 "$work/long"
 sed '3s/^02/0g/' sites/pump-hall.site >"$work/damaged"
 agrees 1 "$work/damaged"
-grep -q '^bin/plan: line 3: refused (1): .*: 0g00001C5048' "$work/err" || fail "the offending line is shown: $(cat "$work/err")"
 sed '5p' sites/pump-hall.site | sed '1s/0108/0109/' >"$work/repeated"
 agrees 1 "$work/repeated"
-grep -q '^bin/plan: line 6: refused (6): this tag is already used' "$work/err" || fail "a repeated tag: $(cat "$work/err")"
+
+# An endless input is read only as far as the verdict needs, and kept nowhere.
+endless() { # FILE..: bin/plan on an input that never ends
+    status=0
+    timeout 120 bin/plan "$@" </dev/zero >"$work/out" || status=$?
+    [ "$status" -eq 1 ] && [ "$(cat "$work/out")" = 8F010001 ] || fail "an endless input: exit status $status"
+}
+endless
+endless /dev/zero
+
+fails() { # WHAT COMMAND..: the command has to end with status 2
+    what=$1
+    shift
+    status=0
+    "$@" >/dev/null 2>"$work/err" || status=$?
+    [ "$status" -eq 2 ] && [ -s "$work/err" ] || fail "$what: exit status $status"
+}
+fails "a folder" bin/plan sites
+fails "a folder as standard input" sh -c 'bin/plan <sites'
+fails "no such file" bin/plan sites/none.site
+fails "two files" bin/plan sites/pump-hall.site sites/pump-hall.site
+fails "a full disk" sh -c 'bin/plan sites/pump-hall.site >/dev/full'
 echo "bin/plan: as the independent planner answers"
