@@ -21,7 +21,8 @@ for site in pump-hall tank-farm; do
     $run picture sites/$site.site | python3 -c 'import sys, xml.etree.ElementTree as xml; xml.parse(sys.stdin)'
 done
 compile cli_texts -Itests $texts $functions
-run_static target/cli_texts
+if [ "$run" = target/cartheron ]; then every=1; else every=10; fi
+run_static target/cli_texts 1 20000 $every
 run_static target/cli_texts --json 2 300 | python3 tests/cli_json.py $run
 
 echo "cli: with the sanitizers"
@@ -36,7 +37,7 @@ sanitize() { # PROGRAM FILE..
     cc -std=c11 -g -O1 -Wall -Wextra -Werror -fsanitize=address,undefined -fno-sanitize-recover=all \
         -Iinclude -Itests -o "$program" "$@" $planner
 }
-# Leaks are looked for in cli_texts; in the command, which ends at once, they do not matter.
+# Leaks are looked for in cli_texts alone: looking takes seconds at each end of a program on some machines.
 sanitize cli_texts.sanitized $texts $functions
 target/cli_texts.sanitized
 sanitize cartheron.sanitized cli/*.c

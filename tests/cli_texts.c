@@ -1,7 +1,8 @@
 /* Runs the command's functions on the comparison's texts, sound and damaged. What plan and rewrite print has to
  * be what the library answers for the whole text, and a refusal has to be told with its number and its line.
- *   cli_texts [SEED [COUNT]]       seed 1 and 20,000 texts unless given
- *   cli_texts --json SEED COUNT    prints the accepted texts and what show and site print of them as JSON
+ *   cli_texts [SEED [COUNT [EVERY]]]    seed 1 and 20,000 texts unless given; other commands than plan and rewrite
+ *                                       on each text, or on one of so many
+ *   cli_texts --json SEED COUNT         prints the accepted texts and what show and site print of them as JSON
  */
 #define _POSIX_C_SOURCE 200809L
 #include "../cli/answer.h"
@@ -70,6 +71,18 @@ static void forget(struct printed *printed)
     free(printed->words);
 }
 
+/* The caret of a line that is not one stands under its first character that is no digit, or behind the digits
+ * that there are, or that there may be. */
+static void check_digits(const uint8_t *line, size_t length, size_t column)
+{
+    static const char digits[] = "0123456789ABCDEF";
+
+    for (size_t i = 0; i < column; i++)
+        check(line[i] != '\0' && strchr(digits, line[i]) != NULL, "a character before the caret that is no digit");
+    check(column == length || column == 136 || line[column] == '\0' || strchr(digits, line[column]) == NULL,
+          "a digit above the caret");
+}
+
 /* A refusal begins with its line and number, and all of it is printable. One at a line that is there ends in
  * a caret that stands under the line or just behind it. */
 static void check_words(const struct printed *printed, uint32_t answer)
@@ -93,6 +106,14 @@ static void check_words(const struct printed *printed, uint32_t answer)
         return;
     size_t column = strspn(caret + 6, " ");
     check(caret[6 + column] == '^' && column <= shown && column <= 136, "a caret in another place");
+    if (CARTHERON_NUMBER(answer) == CARTHERON_NOT_A_LINE)
+        check_digits(text.bytes + cartheron_line_start(text.bytes, text.length, line), shown, column);
+}
+
+/* Whether a command prints what the library wrote. */
+static bool prints_room(enum command command)
+{
+    return command == PLAN || command == REWRITE;
 }
 
 /* Checks what a command printed against the library's answer for the whole text. */
@@ -106,14 +127,15 @@ static void check_print(size_t print, uint32_t answer, const uint8_t *room)
     } else {
         check(printed.status == ANSWERED && printed.words_length == 0, "words for an answer");
         check(printed.out_length > 0, "an empty answer");
-        if (prints[print].command == PLAN || prints[print].command == REWRITE)
+        if (prints_room(prints[print].command))
             check(printed.out_length == answer && memcmp(printed.out, room, answer) == 0, "another answer");
     }
     forget(&printed);
 }
 
-/* Checks all commands on the text. Returns what planning it answers. */
-static uint32_t check_text(void)
+/* Checks the commands on the text, all of them or those that print what the library wrote. Returns what
+ * planning it answers. */
+static uint32_t check_text(bool all)
 {
     uint8_t plan_room[CARTHERON_LONGEST_PLAN], site_room[CARTHERON_LONGEST_SITE];
     uint32_t plan = cartheron_plan(text.bytes, text.length, plan_room, sizeof plan_room);
@@ -121,7 +143,8 @@ static uint32_t check_text(void)
 
     for (size_t i = 0; i < sizeof prints / sizeof prints[0]; i++) {
         bool reads_only = prints[i].command == SITE || prints[i].command == REWRITE;
-        check_print(i, reads_only ? site : plan, reads_only ? site_room : plan_room);
+        if (all || prints_room(prints[i].command))
+            check_print(i, reads_only ? site : plan, reads_only ? site_room : plan_room);
     }
     struct printed coloured = run(SHOW, 0, 1);
     check(coloured.status == (CARTHERON_REFUSED(plan) ? REFUSED : ANSWERED), "another status with colour");
@@ -158,12 +181,13 @@ int main(int argc, char **argv)
 
     seed = argc > 1 ? strtoull(argv[json ? 2 : 1], NULL, 10) : 1;
     uint64_t count = argc > 2 ? strtoull(argv[json ? 3 : 2], NULL, 10) : 20000;
+    uint64_t every = argc > 3 && !json ? strtoull(argv[3], NULL, 10) : 1;
     for (uint64_t next = 0; next < count; next++) {
         make(next);
         if (json)
             print_json();
         else
-            seen[check_text() >> 16]++;
+            seen[check_text(next % every == 0) >> 16]++;
     }
     if (json)
         return 0;
