@@ -16,6 +16,13 @@ done
 bin/cartheron --version
 if [ -x "$kit_tools/bin/qemu-x86_64" ]; then run="$kit_tools/bin/qemu-x86_64 target/cartheron"; else run=target/cartheron; fi
 tests/cli_cases.sh target/cli.cases $run
+for site in sites/*.site bench/sites/*.site; do
+    status=0
+    bin/plan "$site" >target/cli.program || status=$?
+    [ "$status" -le 1 ]
+    [ "$status" -eq 1 ] || $run plan "$site" | cmp - target/cli.program
+    $run rewrite "$site" | cmp - "$site"
+done
 python3 tests/cli_files.py $run
 for site in pump-hall tank-farm; do
     $run picture sites/$site.site | python3 -c 'import sys, xml.etree.ElementTree as xml; xml.parse(sys.stdin)'
