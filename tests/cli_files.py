@@ -113,8 +113,6 @@ class Writing(Case):
         with open("/dev/full", "wb") as full:
             self.assertEqual(run("--help", stdout=full)[0], 2)
             self.assertEqual(run("plan", NO_FIT, stderr=full)[0], 2)
-        self.fails(run("plan", "-o", "/dev/full", PUMP_HALL), b"cannot write /dev/full: No space left on device")
-        self.assertTrue(stat.S_ISCHR(os.stat("/dev/full").st_mode))
 
     def test_a_closed_pipe(self):
         reader, writer = os.pipe()
@@ -158,16 +156,21 @@ class Writing(Case):
         self.assertEqual(contents(site), contents(TANK_FARM))
         self.left("plan", "site")
 
-    def test_links_and_devices_stay(self):
+    def test_links_and_pipes_stay(self):
         self.path("plan", b"old")
         os.symlink("plan", self.path("link"))
         os.symlink("none", self.path("loose"))
         self.assertEqual(run("plan", "-o", self.path("link"), PUMP_HALL)[0], 0)
         self.assertEqual((os.readlink(self.path("link")), contents(self.path("plan"))), ("plan", self.plan))
         self.assertEqual(run("plan", "-o", self.path("loose"), PUMP_HALL)[0], 2)
-        self.left("link", "loose", "plan")
-        self.assertEqual(run("plan", "-o", "/dev/null", PUMP_HALL), (0, b"", b""))
-        self.assertTrue(stat.S_ISCHR(os.stat("/dev/null").st_mode))
+        pipe = self.path("pipe")
+        os.mkfifo(pipe)
+        reader = subprocess.Popen(["cat", pipe], stdout=subprocess.PIPE)
+        self.addCleanup(reader.kill)
+        self.assertEqual(run("plan", "-o", pipe, PUMP_HALL), (0, b"", b""))
+        self.assertTrue(stat.S_ISFIFO(os.stat(pipe).st_mode))
+        self.assertEqual(reader.communicate(timeout=60), (self.plan, None))
+        self.left("link", "loose", "pipe", "plan")
 
     def test_nothing_is_written_for_a_refusal(self):
         old = self.path("plan", b"old")
@@ -200,7 +203,8 @@ class Writing(Case):
 
 
 class Permissions(Case):
-    """As a user who is not root."""
+    """As a user who is not root. Devices are only written to here: root could lose one to a wrong program, which
+    gives a file its name."""
 
     def setUp(self):
         super().setUp()
@@ -213,6 +217,11 @@ class Permissions(Case):
         if self.user:
             os.chown(self.folder, NOBODY, NOBODY)
             os.chown(self.site, NOBODY, NOBODY)
+
+    def test_devices(self):
+        answer = run("plan", "-o", "/dev/full", PUMP_HALL, **self.user)
+        self.fails(answer, b"cannot write /dev/full: No space left on device")
+        self.assertEqual(run("plan", "-o", "/dev/null", PUMP_HALL, **self.user), (0, b"", b""))
 
     def test_a_file_that_may_not_be_read(self):
         os.chmod(self.site, 0)
