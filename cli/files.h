@@ -8,8 +8,8 @@
 /* The verdict on a text rests on its first so many bytes (docs/FORMATS.md, "The program and the C functions"). */
 #define MOST_READ 11859
 
-/* Sees to it that no file which is opened takes the place of a standard one that is closed, and that a closed
- * pipe or a full quota is an error and does not end the program. Returns 0, or -1 with errno. */
+/* Makes a closed pipe and a file that may not grow errors, which would otherwise end the program. Returns 0, or
+ * -1 with errno. */
 int prepare_files(void);
 
 /* Reads a file, NULL for standard input, to its end or to MOST_READ bytes. Returns 0, or -1 with errno. */

@@ -110,12 +110,21 @@ def text_printed(answer, *order):
     return head + answer + hex_line("I", len(answer))
 
 
+def line_printed(case, counts):
+    """Of the line asked for by itself, ended, after a header of these counts: its refusal, or 80."""
+    site = reference.Site()
+    site.cluster_count, site.flow_count = counts
+    number = reference.take(site, max(1, case.line), reference.shown(case.text, case.line), True)
+    return hex_line("BBH", 0x8F, number, case.line % 65_536) if number else hex_line("B", 0x80)
+
+
 def expected_output(case):
     """What the program prints for a case."""
     given = answers(case)
     printed = counts_printed(given.read)
     for line in case.line, given.read[1] if isinstance(given.read, tuple) else 0:
         printed += reference.shown(case.text, line) + b"\n"
+    printed += line_printed(case, (0, 0) if isinstance(given.read, tuple) else given.read)
     for number, written in given.commissioned, given.commissioned, given.rewritten:
         printed += hex_line("II", number, len(written))
     order = () if isinstance(given.planned, tuple) else (int(given.planned[4:6], 16),)

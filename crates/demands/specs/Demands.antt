@@ -1,18 +1,23 @@
 -- What a caller may rely on, beside `ExactNumber`, `ExactRewrite` (crate exactness), `ExactAnswer` and `ExactWriting`: the reader's answer, records there and back, and
 -- the part shown for a line. Each is stated of the values that really came back.
 use mathlib.Core.Path.{_≡_}
-use mathlib.Core.Bool.{true}
+use mathlib.Core.Bool.{true, cond}
 use mathlib.Core.List.{List, [], _++_}
 use mathlib.Core.Logic.{_↔_, _⊎_}
 use Prim.Native.Nat.{ℕ, suc, _+_, _≤_, _<_}
+use lib.Dec.{eqb}
 use lib.ListN.{length, getD, take, drop}
 use denote.Ref.{RefT, ptr, now}
 use Rattle.hexline.specs.Lines.{Row, rows}
+use Rattle.site.specs.declared.Entry.{Entry}
 use Rattle.site.specs.declared.Reading.{Reading}
 use Rattle.site.specs.declared.Site.{Site}
 use Rattle.site.specs.declared.Verdict.the-variants.{Accepted, Refused}
 use Rattle.site.specs.Records.{noSite}
+use Rattle.site.specs.Answers.{gives, refuses, entrySays}
+use Rattle.site.specs.LineAnswers.{fieldsIn}
 use Rattle.site.specs.Reading.{accepted, refused, readText}
+use Rattle.site.specs.Table.{lowest, due, lineTests}
 use Rattle.records.specs.Check.{checked}
 use Rattle.writer.specs.Text.{textOf}
 use Rattle.roundtrip.specs.Kept.{kept}
@@ -41,3 +46,9 @@ pub record LineShown (text part : RefT (List ℕ)) (k : ℕ) : Type 0 where
   pub inside : now part ≡ take (length (now part)) (drop start (now text))
   pub that-line : (n : ℕ) → k ≡ suc n → n < length (rows (now text)) → (start < length (now text)) × (now part ≡ getD (rows (now text)) n noRow .chars)
   pub no-line : (k ≡ 0) ⊎ (length (rows (now text)) < k) → (start ≡ length (now text)) × (now part ≡ [])
+
+-- what is said of line k after a header of n clusters and f flows: the lowest number of the tests that hold, or the values of its fields at their places
+abbrev pub LineAnswered : ℕ → ℕ → ℕ → Row → Entry → Type 0
+LineAnswered k n f r e =
+    let number : ℕ = lowest 1 (lineTests k n f r) in
+    entrySays e ≡ cond (eqb number 0) (gives (fieldsIn (due k n f) (r .chars))) (refuses number k)

@@ -2,6 +2,7 @@
 use crate::MOST_BYTES;
 use libc::STDOUT_FILENO;
 use planner::Planned;
+use site::Entry;
 use site::Reading;
 use site::Verdict;
 use writer::Written;
@@ -41,6 +42,15 @@ pub fn print_reading(reading: Reading) -> usize {
             );
             0
         }
+    }
+}
+
+// Prints what a line is: 80, or the refusal.
+pub fn print_entry(entry: Entry) {
+    if let Entry::Refused { number, line } = entry {
+        print_refusal(number, line);
+    } else {
+        print_line(&[1], &[0x80]);
     }
 }
 

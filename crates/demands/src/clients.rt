@@ -2,6 +2,7 @@
 // owner was promised.
 use planner::Planned;
 use site::Cluster;
+use site::Entry;
 use site::Flow;
 use site::Reading;
 use site::Site;
@@ -9,13 +10,14 @@ use site::Tag;
 use site::Verdict;
 use writer::Written;
 ghost use mathlib.Core.Path.{_≡_};
+ghost use mathlib.Core.Bool.{true};
 ghost use Prim.Native.Nat.{_+_, _*_, _≤_};
 ghost use Rattle.site.specs.Reading.{refused as refusedAs};
 ghost use Rattle.roundtrip.specs.WriterExact.{ExactWriting};
 ghost use Rattle.exactness.specs.CallerExact.{ExactNumber};
 ghost use Rattle.exactness.specs.PlannerExact.{ExactAnswer};
 ghost use Rattle.exactness.specs.RewriteExact.{ExactRewrite};
-ghost use Rattle.demands.specs.Demands.{Surveyed, BackAgain, LineShown};
+ghost use Rattle.demands.specs.Demands.{Surveyed, BackAgain, LineShown, LineAnswered};
 
 // The commissioning tool's way: a site's text and a room in, one number out.
 pub fn commission(text: &[u8], room: &mut [u8]) -> u32
@@ -136,4 +138,12 @@ pub fn shown_line(text: &[u8], line: usize) -> &[u8]
     ensures { λ r. ⌜ LineShown (text .entry) r line ⌝ }
 {
     shown::line_at(text, line)
+}
+
+// What a line is by itself, as the survey tool says it while the line is typed: ended, after a header
+// of so many clusters and flows.
+pub fn read_one_line(line: &[u8], k: usize, clusters: u8, flows: u8) -> Entry
+    ensures { λ r. ⌜ LineAnswered k clusters flows (record { chars = now (line .entry); ended = true }) r ⌝ }
+{
+    site::read_line(line, true, k, clusters, flows)
 }

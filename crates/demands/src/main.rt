@@ -5,10 +5,12 @@ mod clients;
 mod patches;
 mod rooms;
 
+use answers::print_entry;
 use answers::print_part;
 use answers::print_reading;
 use libc::STDIN_FILENO;
 use patches::read_patches;
+use site::Reading;
 ghost use mathlib.Core.Path.{_≡_};
 ghost use Prim.Native.Nat.{_≤_};
 ghost use lib.ListN.{length};
@@ -51,15 +53,24 @@ fn read_exactly(buf: &mut [u8]) -> bool {
     io::read_full(STDIN_FILENO, buf) == buf.len()
 }
 
+// Prints what was read, the parts shown for the line asked for and for the refusal's, and what the
+// line asked for is by itself.
+fn run_lines(text: &[u8], reading: Reading, asked: usize) {
+    let line = print_reading(reading);
+    let part = clients::shown_line(text, asked);
+    print_part(part);
+    print_part(clients::shown_part(text, line));
+    let site = reading.site;
+    print_entry(clients::read_one_line(part, asked, site.cluster_count, site.flow_count));
+}
+
 // Runs the clients that take the text, and then those that take its records, which the patches change
 // first.
 fn run_clients(head: Head, text: &[u8])
     requires { ⌜ (head .«site_room» ≤ 12288) × (head .«plan_room» ≤ 12288) ⌝ }
 {
     let reading = clients::read_text(text);
-    let line = print_reading(reading);
-    print_part(clients::shown_line(text, head.line));
-    print_part(clients::shown_part(text, line));
+    run_lines(text, reading, head.line);
     rooms::run_commission(text, head.plan_room);
     rooms::run_survey(text, head.plan_room);
     rooms::run_rewrite(text, head.site_room);
