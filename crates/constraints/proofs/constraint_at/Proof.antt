@@ -51,7 +51,7 @@ shared-slice-read-t24 : tie.Need-shared-slice-read-t24
 shared-slice-read-t24 c = search needs
 
 cast-t25 : tie.Need-cast-t25
-cast-t25 c = let a = c .before .before .before .args in omega (arith, c .shared-slice-known4 .given (length (a .parents .now) - 1 - (a .place - length (a .sources .now))))
+cast-t25 c = byte-fits _ (c .shared-slice-known4 .given _)
 
 returns-2 : tie.Need-returns-2
 returns-2 c =
@@ -65,7 +65,7 @@ shared-slice-read-t27 : tie.Need-shared-slice-read-t27
 shared-slice-read-t27 c = search needs
 
 cast-t28 : tie.Need-cast-t28
-cast-t28 c = let a = c .before .before .before .args in omega (arith, c .shared-slice-known5 .given (a .place - length (a .sources .now) - (length (a .parents .now) - 1) + 1))
+cast-t28 c = byte-fits _ (c .shared-slice-known5 .given _)
 
 cast-t29 : tie.Need-cast-t29
 cast-t29 c = search needs
