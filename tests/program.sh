@@ -29,6 +29,9 @@ agrees() { # STATUS FILE: bin/plan on the file, which has to end so
     cmp "$work/expected" "$work/out" || fail "bin/plan $2 printed something else"
 }
 
+# built now, if it has to be, since building is told
+bin/plan </dev/null >"$work/out" 2>&1 || true
+
 agrees 0 sites/pump-hall.site
 agrees 0 sites/tank-farm.site
 agrees 1 sites/raw-water-no-fit.site
