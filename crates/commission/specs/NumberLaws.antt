@@ -13,13 +13,12 @@ use Rattle.site.specs.declared.Verdict.{Verdict}
 use Rattle.site.specs.declared.Verdict.the-variants.{Accepted, Refused}
 use Rattle.site.specs.declared.Reading.{Reading}
 use Rattle.records.specs.Check.{checked}
-use Rattle.records.specs.CheckLaws.{accepted-counts}
 use Rattle.site.specs.Answers.{refuses}
 use Rattle.site.specs.Reading.{accepted, readText}
 use Rattle.commission.specs.SmallRefusals.{Small, text-refusal-small}
 use Rattle.writer.specs.declared.Written.{Written}
 use Rattle.writer.specs.declared.Written.the-variants.{Length, Refused as RefusedWriting}
-use Rattle.writer.specs.Text.{textOf, writtenSays, fitting, written, roomAfter as writtenRoom}
+use Rattle.writer.specs.Text.{writtenSays, fitting, written, roomAfter as writtenRoom}
 use Rattle.planner.specs.declared.Planned.{Planned}
 use Rattle.planner.specs.declared.Planned.the-variants.{Plan, Refused as RefusedPlan}
 use Rattle.planner.specs.Answers.{plannedSays, outcomeAnswer, outcomeRoom, answer, roomAfter}
@@ -86,14 +85,9 @@ module _ (t : List ℕ) (reading : Reading) (read : reading ≡ readText t) wher
     pub plan-small : (n : ℕ) → SmallPlan (outcomeAnswer s (plan (siteOf s)) n)
     plan-small n = outcome-small s records-checked n (plan (siteOf s)) refl
 
-    pub counts-taken : (s .«cluster_count» ≤ 64) × (s .«flow_count» ≤ 128)
-    counts-taken = let h = accepted-counts s records-checked in (h .1, h .2)
-
-    pub rewrite-taken : (room : List ℕ) → (numberOf (writtenSays (fitting (textOf s) (length room))) ≡ rewriteNumber t (length room)) × (handed (textOf s) room ≡ rewriteRoom t room)
+    pub rewrite-taken : (room : List ℕ) → (numberOf (writtenSays (fitting t (length room))) ≡ rewriteNumber t (length room)) × (handed t room ≡ rewriteRoom t room)
     unfolding rewriteNumber rewriteRoom written writtenRoom
-    rewrite-taken room = (rw (text-taken, records-checked), rw (text-taken, records-checked))
+    rewrite-taken room = let back = write-of-read t s text-taken .1 in (rw (text-taken, records-checked, back), rw (text-taken, records-checked, back))
 
-    pub written-small : (n : ℕ) → SmallWriting (fitting (textOf s) n)
-    written-small n =
-        let fits : length (textOf s) ≤ 11721 = rw (write-of-read t s text-taken .1) (longest-site t s text-taken) in
-        elim (decide (leb (length (textOf s)) n)) [ inl e ↦ rw e fits | inr e ↦ rw e (omega arith) ]
+    pub written-small : (n : ℕ) → SmallWriting (fitting t n)
+    written-small n = elim (decide (leb (length t) n)) [ inl e ↦ rw e (longest-site t s text-taken) | inr e ↦ rw e (omega arith) ]

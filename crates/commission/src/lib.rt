@@ -6,8 +6,10 @@ use writer::Written;
 ghost use mathlib.Core.Path.{_≡_};
 ghost use Prim.Native.Nat.{_≤_};
 ghost use lib.ListN.{length};
+ghost use Rattle.hexline.specs.Room.{handed};
 ghost use Rattle.site.specs.Answers.{refuses};
 ghost use Rattle.shown.specs.Shown.{lineStart, lineAt};
+ghost use Rattle.writer.specs.Text.{fitting};
 ghost use Rattle.commission.specs.Numbers.{numberOf, planNumber, planRoom, rewriteNumber, rewriteRoom, Done};
 
 // A refusal as one number.
@@ -16,6 +18,19 @@ fn refusal_number(number: u8, line: usize) -> u32
     ensures { λ r. ⌜ r ≡ numberOf (refuses number line) ⌝ }
 {
     65536 * (number as u32) + line as u32
+}
+
+// Copies the text of an accepted site into the room, or refuses by 9 where the room is shorter. What is
+// written of the records that were read is the text itself (`write-of-read` of crate roundtrip), so no
+// line of it is made anew.
+fn give_back(text: &[u8], room: &mut [u8]) -> Written
+    ensures { λ r. ⌜ (r ≡ fitting (now (text .entry)) (length (now (room .entry)))) × (now (room .exit) ≡ handed (now (text .entry)) (now (room .entry))) ⌝ }
+{
+    if room.len() < text.len() {
+        return Written::Refused { number: 9, line: 0 };
+    }
+    let length = bytes::copy(text, room);
+    Written::Length(length)
 }
 
 // What a caller wants of a site that reads.
@@ -42,7 +57,7 @@ fn read_and(text: &[u8], room: &mut [u8], errand: Errand) -> u32
                 }
             }
             Errand::Rewrite => {
-                let written = writer::put_site(room, reading.site);
+                let written = give_back(text, room);
                 match written {
                     Written::Length(length) => length as u32,
                     Written::Refused { number, line } => refusal_number(number, line),

@@ -12,7 +12,7 @@ use Rattle.hexline.specs.Digits.{isDigit, digit, hexOf, byteAt, numberAt, hexes
 use Rattle.hexline.specs.Loops.{filled}
 use Rattle.hexline.specs.Decoded.{Decoded}
 use Rattle.hexline.specs.Lines.{Row, lineLength, malformed}
-use Rattle.hexline.specs.Room.{put, handed}
+use Rattle.hexline.specs.Room.{put}
 use Rattle.model.specs.declared.Order.{Order}
 use Rattle.model.specs.Counting.{at as numberIn, values}
 use Rattle.model.specs.Orders.{portion, interval, lengthAt, permitted}
@@ -33,7 +33,7 @@ use Rattle.site.specs.Table.{entryOf}
 use Rattle.site.specs.Reading.{readText}
 use Rattle.records.specs.Check.{checked}
 use Rattle.shown.specs.Shown.{lineStart, lineAt, Shown}
-use Rattle.writer.specs.Text.{textOf, fitting, written, roomAfter as writtenRoom}
+use Rattle.writer.specs.Text.{textOf, written, roomAfter as writtenRoom}
 use Rattle.plantext.specs.PlanText.{planText, siteOf}
 use Rattle.planner.specs.Answers.{answer, roomAfter, outcomeAnswer, outcomeRoom}
 use Rattle.commission.specs.Numbers.{planNumber, planRoom, rewriteNumber, rewriteRoom}
@@ -87,7 +87,6 @@ pub record EqualResults : Type 0 where
   -- the writer and the planner, with the room that they were lent
   pub plan-text-length : (s : Site) (placed : List ℕ) (r₁ r₂ : ℕ) → ((order : ℕ) → r₁ ≡ length (planText s order placed)) → ((order : ℕ) → r₂ ≡ length (planText s order placed)) → r₁ ≡ r₂
   pub plan-text-put : (room : List ℕ) (s : Site) (order : ℕ) (placed : List ℕ) → OneResultInRoom (length (planText s order placed)) (put room 0 (planText s order placed))
-  pub «put_site» : (s : Site) (room : List ℕ) → OneResultInRoom (fitting (textOf s) (length room)) (handed (textOf s) room)
   pub write : (s : Site) (room : List ℕ) → OneResultInRoom (written (checked s) (textOf s) (length room)) (writtenRoom (checked s) (textOf s) room)
   pub «plan_accepted» : (s : Site) (room : List ℕ) → OneResultInRoom (outcomeAnswer s (planOf (siteOf s)) (length room)) (outcomeRoom s (planOf (siteOf s)) room)
   pub plan : (s : Site) (room : List ℕ) → OneResultInRoom (answer s (length room)) (roomAfter s room)
@@ -135,7 +134,6 @@ results-are-equal = record {
   search = λ figures before counts₁ counts₂ r₁ r₂ w p q. searched-once (w .0) (p (w .0) (w .1)) (q (w .0) (w .1));
   plan-text-length = λ s placed r₁ r₂ p q. equal-results (length (planText s 0 placed)) r₁ r₂ (p 0) (q 0);
   plan-text-put = λ room s order placed. equal-results-in-room (length (planText s order placed)) (put room 0 (planText s order placed));
-  «put_site» = λ s room. equal-results-in-room (fitting (textOf s) (length room)) (handed (textOf s) room);
   write = λ s room. equal-results-in-room (written (checked s) (textOf s) (length room)) (writtenRoom (checked s) (textOf s) room);
   «plan_accepted» = λ s room. equal-results-in-room (outcomeAnswer s (planOf (siteOf s)) (length room)) (outcomeRoom s (planOf (siteOf s)) room);
   plan = λ s room. equal-results-in-room (answer s (length room)) (roomAfter s room);

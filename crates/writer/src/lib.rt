@@ -119,7 +119,7 @@ fn flows_size(flows: [Flow; 128], n: usize) -> usize
 
 // Writes the text of records that were accepted, or refuses by 9 before the first byte where the
 // room is shorter than the text.
-pub fn put_site(room: &mut [u8], site: Site) -> Written
+fn put_site(room: &mut [u8], site: Site) -> Written
     requires { ⌜ (site .«cluster_count» ≤ 64) × (site .«flow_count» ≤ 128) ⌝ }
     ensures { λ r. ⌜ (r ≡ fitting (textOf site) (length (now (room .entry)))) × (now (room .exit) ≡ handed (textOf site) (now (room .entry))) ⌝ }
 {

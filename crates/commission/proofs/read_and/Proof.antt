@@ -1,4 +1,4 @@
--- `commission::read_and` meets its contract: by the reader's verdict, its refusal as a number, or the planner's or the writer's answer as one. A line of a refusal is at
+-- `commission::read_and` meets its contract: by the reader's verdict, its refusal as a number, or the planner's answer as one, or what is given back of the text. A line of a refusal is at
 -- most 194, a plan text has at most 9,673 bytes and the text of an accepted site at most 11,721, so each number fits.
 use mathlib.Core.Path.{_≡_, sym, ap, _∙_, subst}
 use mathlib.Core.List.{List}
@@ -15,7 +15,7 @@ use Rattle.commission.specs.declared.Errand.{Errand}
 use Rattle.commission.specs.declared.Errand.the-variants.{Plan, Rewrite}
 use Rattle.commission.specs.Numbers.{numberOf, Done}
 use Rattle.commission.specs.NumberLaws.{SmallPlan, SmallWriting, refused-line-small, plan-refused, rewrite-refused}
-use Rattle.commission.specs.NumberLaws.{records-checked, plan-taken, plan-small, counts-taken, rewrite-taken, written-small}
+use Rattle.commission.specs.NumberLaws.{records-checked, plan-taken, plan-small, rewrite-taken, written-small}
 use borrow.Author.Needs.{needs}
 use Rattle.commission.proofs.read_and.Statement.{statement}
 use Rattle.commission.proofs.read_and.Tie as tie
@@ -52,21 +52,21 @@ module _ (c : tie.After-plan-accepted) (answer : Planned) (is : c .plan-accepted
       subst (λ (e : Errand). Done e (text was) (room was) (numberOf (plannedSays answer)) (c .plan-accepted .last .1 .0)) (sym (c .before .before .enum-told2 .given .1))
       (ap (λ (a : Planned). numberOf (plannedSays a)) (sym is ∙ c .plan-accepted .ensures .0) ∙ taken .0, c .plan-accepted .ensures .1 ∙ taken .1)
 
--- the writer's answer to them
-module _ (c : tie.After-put-site) (answer : Written) (is : c .put-site .result ≡ answer) where
+-- what is given back of its text
+module _ (c : tie.After-give-back) (answer : Written) (is : c .give-back .result ≡ answer) where
   abbrev was-read : tie.After-read
   was-read = c .before .before .before .before .before .before
 
   writing-fits : SmallWriting answer
   writing-fits =
-      subst SmallWriting (sym (c .put-site .ensures .0) ∙ is)
+      subst SmallWriting (sym (c .give-back .ensures .0) ∙ is)
       (written-small (text was-read) (reading was-read) (was-read .read .ensures) (c .before .before .before .before .enum-told .given .1) _)
 
-  rewrite-done : Done (errand was-read) (text was-read) (room was-read) (numberOf (writtenSays answer)) (c .put-site .last .0)
+  rewrite-done : Done (errand was-read) (text was-read) (room was-read) (numberOf (writtenSays answer)) (c .give-back .last .1 .0)
   rewrite-done =
       let taken = rewrite-taken (text was-read) (reading was-read) (was-read .read .ensures) (c .before .before .before .before .enum-told .given .1) (room was-read) in
-      subst (λ (e : Errand). Done e (text was-read) (room was-read) (numberOf (writtenSays answer)) (c .put-site .last .0)) (sym (c .before .before .enum-told3 .given .1))
-      (ap (λ (a : Written). numberOf (writtenSays a)) (sym is ∙ c .put-site .ensures .0) ∙ taken .0, c .put-site .ensures .1 ∙ taken .1)
+      subst (λ (e : Errand). Done e (text was-read) (room was-read) (numberOf (writtenSays answer)) (c .give-back .last .1 .0)) (sym (c .before .before .enum-told3 .given .1))
+      (ap (λ (a : Written). numberOf (writtenSays a)) (sym is ∙ c .give-back .ensures .0) ∙ taken .0, c .give-back .ensures .1 ∙ taken .1)
 
 read-requires : tie.Need-read-requires
 read-requires c κs = search needs
@@ -103,10 +103,8 @@ refusal-number-requires-2 c κs = plan-fits (c .before .before .before .before .
 enum-told-3 : tie.Need-enum-told-3
 enum-told-3 c = search needs
 
-put-site-requires : tie.Need-put-site-requires
-put-site-requires c κs =
-    let called = c .before .before .before .before .before in
-    counts-taken (text called) (reading called) (called .read .ensures) (c .before .before .before .enum-told .given .1)
+give-back-requires : tie.Need-give-back-requires
+give-back-requires c κs = search needs
 
 enum-known-written : tie.Need-enum-known-written
 enum-known-written c = search needs
@@ -136,13 +134,13 @@ returns-3 : tie.Need-returns-3
 returns-3 c = rw (c .refusal-number2 .ensures) (plan-done (c .before .before .before .before .before .before) _ (c .before .before .answer2 .given .1))
 
 same-length-3 : tie.Need-same-length-3
-same-length-3 c = c .before .before .before .before .before .put-site .kept .0
+same-length-3 c = c .before .before .before .before .before .give-back .kept .1 .0
 
 returns-4 : tie.Need-returns-4
 returns-4 c = rewrite-done (c .before .before .before .before .before) _ (c .before .written .given .1)
 
 same-length-4 : tie.Need-same-length-4
-same-length-4 c = c .before .before .before .before .before .before .put-site .kept .0
+same-length-4 c = c .before .before .before .before .before .before .give-back .kept .1 .0
 
 returns-5 : tie.Need-returns-5
 returns-5 c = rw (c .refusal-number3 .ensures) (rewrite-done (c .before .before .before .before .before .before) _ (c .before .before .written2 .given .1))
@@ -162,7 +160,7 @@ read-and-spec =
     enum-known-answer-2
     refusal-number-requires-2
     enum-told-3
-    put-site-requires
+    give-back-requires
     enum-known-written
     cast-result-2
     enum-known-written-2
