@@ -43,11 +43,13 @@ pub struct Flow {
     pub deadline: u32,
 }
 
-// A site: of its clusters and flows, as many count as the two numbers say.
+// A site: of its clusters and flows, as many count as the two numbers say. A number stands between
+// the arrays and one after them, so that the compiler takes the struct apart and moves each array by
+// itself, in less stack.
 pub struct Site {
-    pub clusters: [Cluster; 64],
     pub flows: [Flow; 128],
     pub cluster_count: u8,
+    pub clusters: [Cluster; 64],
     pub flow_count: u8,
 }
 

@@ -14,34 +14,42 @@ use crate::tags::same_tag;
 use crate::tags::tag_of;
 use model::wide;
 ghost use mathlib.Core.Path.{_≡_};
-ghost use Rattle.site.specs.Records.{noSite};
+ghost use Rattle.site.specs.Records.{noCluster, noFlow, noSite};
 ghost use Rattle.site.specs.Reading.{accepted as takenAs, refused as refusedAs, readText};
 
-// The records before the first line: all zero.
-fn no_site() -> Site
-    ensures { λ r. ⌜ r ≡ noSite ⌝ }
+// A cluster and a flow that are all zero.
+fn no_cluster() -> Cluster
+    ensures { λ r. ⌜ r ≡ noCluster ⌝ }
 {
-    let tag = Tag {
-        bytes: [0u8; 64],
-        len: 0,
-    };
-    let cluster = Cluster {
+    Cluster {
         parent: 0,
         order: 0,
-        tag,
-    };
-    let flow = Flow {
+        tag: Tag {
+            bytes: [0u8; 64],
+            len: 0,
+        },
+    }
+}
+
+fn no_flow() -> Flow
+    ensures { λ r. ⌜ r ≡ noFlow ⌝ }
+{
+    Flow {
         source: 0,
         sink: 0,
         period: 0,
         deadline: 0,
-    };
-    let clusters = [cluster; 64];
-    let flows = [flow; 128];
+    }
+}
+
+// The records of a refused text: all zero.
+fn no_site() -> Site
+    ensures { λ r. ⌜ r ≡ noSite ⌝ }
+{
     Site {
-        clusters,
-        flows,
+        flows: [no_flow(); 128],
         cluster_count: 0,
+        clusters: [no_cluster(); 64],
         flow_count: 0,
     }
 }
@@ -69,7 +77,10 @@ fn refused(number: u8, line: usize) -> Reading
 pub fn read(text: &[u8]) -> Reading
     ensures { λ r. ⌜ r ≡ readText (now (text .entry)) ⌝ }
 {
-    let mut site = no_site();
+    let mut clusters = [no_cluster(); 64];
+    let mut flows = [no_flow(); 128];
+    let mut cluster_count: u8 = 0;
+    let mut flow_count: u8 = 0;
     let mut prints = [0u32; 64];
     let mut at: usize = 0;
     let mut k: usize = 1;
@@ -82,16 +93,16 @@ pub fn read(text: &[u8]) -> Reading
             &mut bytes,
             end < text.len(),
             k,
-            site.cluster_count,
-            site.flow_count,
+            cluster_count,
+            flow_count,
         );
         let next = k + 1;
         let after = end + 1;
         match entry {
             Entry::Refused { number, line } => return refused(number, line),
             Entry::Header { clusters, flows } => {
-                site.cluster_count = clusters;
-                site.flow_count = flows;
+                cluster_count = clusters;
+                flow_count = flows;
                 k = next;
                 at = after;
             }
@@ -107,14 +118,14 @@ pub fn read(text: &[u8]) -> Reading
                 let i = k - 2;
                 let mut j = first_alike(&prints, i, print);
                 while j < i {
-                    let earlier = site.clusters[j];
+                    let earlier = clusters[j];
                     if same_tag(earlier.tag, tag) {
                         return refused(6, k);
                     }
                     j += 1;
                 }
                 let cluster = Cluster { parent, order, tag };
-                site.clusters[i] = cluster;
+                clusters[i] = cluster;
                 prints[i] = print;
                 k = next;
                 at = after;
@@ -131,15 +142,20 @@ pub fn read(text: &[u8]) -> Reading
                     period,
                     deadline,
                 };
-                let j = k - 2 - wide(site.cluster_count);
-                site.flows[j] = flow;
+                let j = k - 2 - wide(cluster_count);
+                flows[j] = flow;
                 k = next;
                 at = after;
             }
         }
     }
-    if due_at(k, site.cluster_count, site.flow_count) == 0 {
-        return accepted(site);
+    if due_at(k, cluster_count, flow_count) == 0 {
+        return accepted(Site {
+            flows,
+            cluster_count,
+            clusters,
+            flow_count,
+        });
     }
     refused(2, k)
 }

@@ -10,9 +10,11 @@ use lib.ListN.{length, getD, drop}
 use Rattle.hexline.specs.Loops.{every, every-more}
 use Rattle.hexline.specs.Lines.{Row, lineLength}
 use Rattle.hexline.specs.LineLaws.{line-inside, rowAt}
+use Rattle.site.specs.declared.Cluster.{Cluster}
+use Rattle.site.specs.declared.Flow.{Flow}
 use Rattle.site.specs.declared.Entry.the-variants.{Cluster as ClusterLine, Flow as FlowLine}
 use Rattle.site.specs.declared.Site.{Site}
-use Rattle.site.specs.Records.{absent, sameTag}
+use Rattle.site.specs.Records.{noSite, absent, sameTag}
 use Rattle.site.specs.TagLaws.{tag-is-taken, tag-not-taken}
 use Rattle.site.specs.Reading.{withHeader, withCluster, withFlow}
 use Rattle.site.specs.ReadLaws.{header-is, ClusterIs, cluster-is, FlowIs, flow-is}
@@ -22,24 +24,28 @@ use borrow.Author.Needs.{needs}
 use Rattle.site.proofs.reader.read.Statement.{statement}
 use Rattle.site.proofs.reader.read.Tie as tie
 
+-- the records so far, which the reader keeps in four locals
+abbrev recordsOf : List Cluster → List Flow → ℕ → ℕ → Site
+recordsOf clusters flows n f = record { flows = flows; «cluster_count» = n; clusters = clusters; «flow_count» = f }
+
 abbrev Inv-loop2 : tie.InvT-loop2
-Inv-loop2 text site prints at k end next after parent order len tag print i j₀ j = (j ≤ i) × (every j (λ m. not (sameTag (getD (site .clusters) m absent .tag) tag)) ≡ true)
+Inv-loop2 text clusters flows n f prints at k end next after parent order len tag print i j₀ j = (j ≤ i) × (every j (λ m. not (sameTag (getD clusters m absent .tag) tag)) ≡ true)
 
 abbrev μ-loop2 : tie.MeasureT-loop2
-μ-loop2 text site prints at k end next after parent order len tag print i j₀ j = i - j
+μ-loop2 text clusters flows n f prints at k end next after parent order len tag print i j₀ j = i - j
 
 abbrev Inv-loop : tie.InvT-loop
-Inv-loop text site₀ prints₀ at₀ k₀ site prints at k = Reached text at k site prints
+Inv-loop text clusters₀ flows₀ n₀ f₀ prints₀ at₀ k₀ clusters flows n f prints at k = Reached text at k (recordsOf clusters flows n f) prints
 
 abbrev μ-loop : tie.MeasureT-loop
-μ-loop text site₀ prints₀ at₀ k₀ site prints at k = length text + 1 - at
+μ-loop text clusters₀ flows₀ n₀ f₀ prints₀ at₀ k₀ clusters flows n f prints at k = length text + 1 - at
 
 -- a turn of the loop over the lines, after the line reader has answered
 abbrev Turn : Type 0
 Turn = tie.After-line-entry Inv-loop2 μ-loop2 Inv-loop μ-loop
 
 abbrev text : Turn → List ℕ
-text turn = turn .before .before .before .before .before .before .before .before .args .text .now
+text turn = turn .before .before .before .before .before .before .before .before .before .args .text .now
 
 abbrev at : Turn → ℕ
 at turn = turn .before .before .before .before .before .loop .at
@@ -48,7 +54,9 @@ abbrev number : Turn → ℕ
 number turn = turn .before .before .before .before .before .loop .k
 
 abbrev records : Turn → Site
-records turn = turn .before .before .before .before .before .loop .site
+records turn =
+    let now = turn .before .before .before .before .before .loop in
+    recordsOf (now .clusters) (now .flows) (now .cluster-count) (now .flow-count)
 
 abbrev prints : Turn → List ℕ
 prints turn = turn .before .before .before .before .before .loop .prints
@@ -101,11 +109,15 @@ flow-room c =
     let all = reached (c .before .before) .sized in
     (line .after, omega (arith, line .within, all .flows), omega (arith, line .within, all .flows, all .flowRoom))
 
-no-site-requires : tie.Need-no-site-requires Inv-loop2 μ-loop2 Inv-loop μ-loop
-no-site-requires c κs = search needs
+no-cluster-requires : tie.Need-no-cluster-requires Inv-loop2 μ-loop2 Inv-loop μ-loop
+no-cluster-requires c κs = search needs
+
+no-flow-requires : tie.Need-no-flow-requires Inv-loop2 μ-loop2 Inv-loop μ-loop
+no-flow-requires c κs = search needs
 
 loop-holds : tie.Need-loop-holds Inv-loop2 μ-loop2 Inv-loop μ-loop
-loop-holds c = rw (c .no-site .ensures) (reached-start _)
+unfolding noSite
+loop-holds c = rw (c .before .no-cluster .ensures, c .no-flow .ensures) (reached-start _)
 
 line-end-requires : tie.Need-line-end-requires Inv-loop2 μ-loop2 Inv-loop μ-loop
 line-end-requires c κs = search needs
@@ -117,7 +129,7 @@ part-line-start : tie.Need-part-line-start Inv-loop2 μ-loop2 Inv-loop μ-loop
 part-line-start c = search needs
 
 part-line-end : tie.Need-part-line-end Inv-loop2 μ-loop2 Inv-loop μ-loop
-part-line-end c = line-inside (c .before .before .before .before .before .args .text .now) (c .before .before .loop .at) (c .line-end .result) (omega arith) (c .line-end .ensures)
+part-line-end c = line-inside (c .before .before .before .before .before .before .args .text .now) (c .before .before .loop .at) (c .line-end .result) (omega arith) (c .line-end .ensures)
 
 line-entry-requires : tie.Need-line-entry-requires Inv-loop2 μ-loop2 Inv-loop μ-loop
 line-entry-requires c κs = search needs
@@ -182,8 +194,8 @@ loop2-holds c =
 mul-earlier : tie.Need-mul-earlier Inv-loop2 μ-loop2 Inv-loop μ-loop
 mul-earlier c = omega (arith, c .loop2-test .taken, cluster-room (c .before .before .before .before .before .before .before .before .before .before))
 
-element-copy-out-earlier : tie.Need-element-copy-out-earlier Inv-loop2 μ-loop2 Inv-loop μ-loop
-element-copy-out-earlier c = omega (arith, c .loop2-test .taken, cluster-room (c .before .before .before .before .before .before .before .before .before .before))
+array-copy-out-earlier : tie.Need-array-copy-out-earlier Inv-loop2 μ-loop2 Inv-loop μ-loop
+array-copy-out-earlier c = omega (arith, c .loop2-test .taken, cluster-room (c .before .before .before .before .before .before .before .before .before .before))
 
 same-tag-requires : tie.Need-same-tag-requires Inv-loop2 μ-loop2 Inv-loop μ-loop
 same-tag-requires c κs = search needs
@@ -210,11 +222,11 @@ loop2-less c = search needs
 loop2-again : tie.Need-loop2-again Inv-loop2 μ-loop2 Inv-loop μ-loop
 loop2-again c = (search needs, every-more _ _ (c .before .before .before .before .loop2 .inv .1) (ap not (sym (c .before .same-tag .ensures) ∙ c .if1 .left)))
 
-mul-cluster : tie.Need-mul-cluster Inv-loop2 μ-loop2 Inv-loop μ-loop
-mul-cluster c = omega (arith, cluster-room (c .before .before .before .before .before .before .before .before .before .before))
+mul-clusters : tie.Need-mul-clusters Inv-loop2 μ-loop2 Inv-loop μ-loop
+mul-clusters c = omega (arith, cluster-room (c .before .before .before .before .before .before .before .before .before .before))
 
-element-set-from-cluster : tie.Need-element-set-from-cluster Inv-loop2 μ-loop2 Inv-loop μ-loop
-element-set-from-cluster c = omega (arith, cluster-room (c .before .before .before .before .before .before .before .before .before .before))
+array-set-from-clusters : tie.Need-array-set-from-clusters Inv-loop2 μ-loop2 Inv-loop μ-loop
+array-set-from-clusters c = omega (arith, cluster-room (c .before .before .before .before .before .before .before .before .before .before))
 
 mul-prints : tie.Need-mul-prints Inv-loop2 μ-loop2 Inv-loop μ-loop
 mul-prints c = omega (arith, cluster-room (c .before .before .before .before .before .before .before .before .before .before))
@@ -247,11 +259,11 @@ wide-requires c κs = search needs
 sub-j-2 : tie.Need-sub-j-2 Inv-loop2 μ-loop2 Inv-loop μ-loop
 sub-j-2 c = omega (arith, c .wide .ensures .0, flow-room (c .before .before))
 
-mul-flow : tie.Need-mul-flow Inv-loop2 μ-loop2 Inv-loop μ-loop
-mul-flow c = omega (arith, c .wide .ensures .0, flow-room (c .before .before))
+mul-flows : tie.Need-mul-flows Inv-loop2 μ-loop2 Inv-loop μ-loop
+mul-flows c = omega (arith, c .wide .ensures .0, flow-room (c .before .before))
 
-element-set-from-flow : tie.Need-element-set-from-flow Inv-loop2 μ-loop2 Inv-loop μ-loop
-element-set-from-flow c = omega (arith, c .wide .ensures .0, flow-room (c .before .before))
+array-set-from-flows : tie.Need-array-set-from-flows Inv-loop2 μ-loop2 Inv-loop μ-loop
+array-set-from-flows c = omega (arith, c .wide .ensures .0, flow-room (c .before .before))
 
 loop-less-3 : tie.Need-loop-less-3 Inv-loop2 μ-loop2 Inv-loop μ-loop
 loop-less-3 c = onward (c .before .before .before .before)
@@ -273,7 +285,7 @@ returns-3 : tie.Need-returns-3 Inv-loop2 μ-loop2 Inv-loop μ-loop
 returns-3 c =
     let due = c .before .before in let at-end = due .before .before .loop in
     c .accepted .ensures
-    ∙ sym (left-none _ (at-end .at) (at-end .k) (at-end .site) (due .before .loop-test .left) (sym (due .due-at .ensures) ∙ c .before .if2 .taken))
+    ∙ sym (left-none _ (at-end .at) (at-end .k) (recordsOf (at-end .clusters) (at-end .flows) (at-end .cluster-count) (at-end .flow-count)) (due .before .loop-test .left) (sym (due .due-at .ensures) ∙ c .before .if2 .taken))
     ∙ at-end .inv .left
 
 refused-requires-3 : tie.Need-refused-requires-3 Inv-loop2 μ-loop2 Inv-loop μ-loop
@@ -283,15 +295,15 @@ returns-4 : tie.Need-returns-4 Inv-loop2 μ-loop2 Inv-loop μ-loop
 returns-4 c =
     let due = c .before .before in let at-end = due .before .before .loop in
     c .refused3 .ensures
-    ∙ sym (left-missing _ (at-end .at) (at-end .k) (at-end .site) (due .before .loop-test .left) (λ e. c .before .if2 .left (due .due-at .ensures ∙ e)))
+    ∙ sym (left-missing _ (at-end .at) (at-end .k) (recordsOf (at-end .clusters) (at-end .flows) (at-end .cluster-count) (at-end .flow-count)) (due .before .loop-test .left) (λ e. c .before .if2 .left (due .due-at .ensures ∙ e)))
     ∙ at-end .inv .left
 
 pub read-spec : {M : Type 1} → statement M
 read-spec =
     tie.close
-    (tie.spec Inv-loop2 μ-loop2 Inv-loop μ-loop no-site-requires loop-holds line-end-requires sub-line part-line-start part-line-end line-entry-requires
+    (tie.spec Inv-loop2 μ-loop2 Inv-loop μ-loop no-cluster-requires no-flow-requires loop-holds line-end-requires sub-line part-line-start part-line-end line-entry-requires
     add-next add-after enum-known-entry refused-requires returns enum-known-entry-2 loop-less loop-again enum-known-entry-3 tag-of-requires
     print-of-requires sub-i first-alike-requires loop2-holds
-    mul-earlier element-copy-out-earlier same-tag-requires refused-requires-2 returns-2 add-j loop2-less loop2-again mul-cluster element-set-from-cluster
-    mul-prints array-write-prints loop-less-2 loop-again-2 enum-known-entry-4 sub-j wide-requires sub-j-2 mul-flow element-set-from-flow loop-less-3 loop-again-3 due-at-requires
+    mul-earlier array-copy-out-earlier same-tag-requires refused-requires-2 returns-2 add-j loop2-less loop2-again mul-clusters array-set-from-clusters
+    mul-prints array-write-prints loop-less-2 loop-again-2 enum-known-entry-4 sub-j wide-requires sub-j-2 mul-flows array-set-from-flows loop-less-3 loop-again-3 due-at-requires
     accepted-requires returns-3 refused-requires-3 returns-4)
