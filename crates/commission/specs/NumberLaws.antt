@@ -11,10 +11,10 @@ use Rattle.hexline.specs.Room.{handed}
 use Rattle.site.specs.declared.Site.{Site}
 use Rattle.site.specs.declared.Verdict.{Verdict}
 use Rattle.site.specs.declared.Verdict.the-variants.{Accepted, Refused}
-use Rattle.site.specs.declared.Reading.{Reading}
 use Rattle.records.specs.Check.{checked}
 use Rattle.site.specs.Answers.{refuses}
-use Rattle.site.specs.Reading.{accepted, readText}
+use Rattle.reader.specs.declared.Reading.{Reading}
+use Rattle.reader.specs.Reading.{accepted, readText}
 use Rattle.commission.specs.SmallRefusals.{Small, text-refusal-small}
 use Rattle.writer.specs.declared.Written.{Written}
 use Rattle.writer.specs.declared.Written.the-variants.{Length, Refused as RefusedWriting}

@@ -8,7 +8,7 @@ use Rattle.site.specs.declared.Site.{Site}
 use Rattle.site.specs.declared.Verdict.{Verdict}
 use Rattle.site.specs.declared.Verdict.the-variants.{Accepted, Refused}
 use Rattle.site.specs.Answers.{Answer, gives, refuses, verdictSays, orNext}
-use Rattle.site.specs.Reading.{readText}
+use Rattle.reader.specs.Reading.{readText}
 use Rattle.records.specs.Check.{checked}
 use Rattle.writer.specs.Text.{textOf, writtenSays, written, roomAfter as writtenRoom}
 use Rattle.planner.specs.Answers.{plannedSays, answer, roomAfter}

@@ -19,7 +19,7 @@ use Rattle.site.specs.declared.Verdict.the-variants.{Accepted, Refused}
 use Rattle.site.specs.Records.{noSite, headerOutside}
 use Rattle.site.specs.Table.{lowest, due, wrongKind, outside, repeated, lineTests, refusal}
 use Rattle.site.specs.TableLaws.{lowest-none, header, cluster, flow, beyond, place}
-use Rattle.site.specs.Reading.{withHeader, withCluster, withFlow, refusalAt, entered, readRows, readText}
+use Rattle.reader.specs.Reading.{withHeader, withCluster, withFlow, refusalAt, entered, readRows, readText}
 
 abbrev pub Small : Verdict → Type 0
 Small Accepted = Unit {0}

@@ -44,7 +44,7 @@ enum Errand {
 fn read_and(text: &[u8], room: &mut [u8], errand: Errand) -> u32
     ensures { λ r. ⌜ Done errand (now (text .entry)) (now (room .entry)) r (now (room .exit)) ⌝ }
 {
-    let reading = site::read(text);
+    let reading = reader::read(text);
     let verdict = reading.verdict;
     match verdict {
         Verdict::Refused { number, line } => refusal_number(number, line),

@@ -13,13 +13,13 @@ use Rattle.hexline.specs.LineLaws.{line-within}
 use Rattle.hexline.specs.Loops.{decide}
 use Rattle.shown.specs.Shown.{lineStart, lineAt, Shown}
 use Rattle.shown.specs.ShownLaws.{start-fits, line-is-row, line-there, line-missing}
-use Rattle.site.specs.declared.Reading.{Reading}
 use Rattle.site.specs.declared.Site.{Site}
 use Rattle.site.specs.declared.Verdict.{Verdict}
 use Rattle.site.specs.declared.Verdict.the-variants.{Accepted, Refused}
 use Rattle.site.specs.Records.{noSite}
-use Rattle.site.specs.Reading.{refusalAt, entered, accepted, readRows, readText}
 use Rattle.site.specs.Table.{due}
+use Rattle.reader.specs.declared.Reading.{Reading}
+use Rattle.reader.specs.Reading.{refusalAt, entered, accepted, readRows, readText}
 use Rattle.roundtrip.specs.AcceptedExactly.{accepted-exactly}
 use Rattle.roundtrip.specs.WriteOfRead.{write-of-read}
 use Rattle.demands.specs.Demands.{Surveyed, noRow, LineShown}

@@ -10,14 +10,14 @@ use lib.ListN.{length, getD, take, drop}
 use denote.Ref.{RefT, ptr, now}
 use Rattle.hexline.specs.Lines.{Row, rows}
 use Rattle.site.specs.declared.Entry.{Entry}
-use Rattle.site.specs.declared.Reading.{Reading}
 use Rattle.site.specs.declared.Site.{Site}
 use Rattle.site.specs.declared.Verdict.the-variants.{Accepted, Refused}
 use Rattle.site.specs.Records.{noSite}
 use Rattle.site.specs.Answers.{gives, refuses, entrySays}
 use Rattle.site.specs.LineAnswers.{fieldsIn}
-use Rattle.site.specs.Reading.{accepted, refused, readText}
 use Rattle.site.specs.Table.{lowest, due, lineTests}
+use Rattle.reader.specs.declared.Reading.{Reading}
+use Rattle.reader.specs.Reading.{accepted, refused, readText}
 use Rattle.records.specs.Check.{checked}
 use Rattle.writer.specs.Text.{textOf}
 use Rattle.roundtrip.specs.Kept.{kept}

@@ -2,8 +2,8 @@
 use crate::MOST_BYTES;
 use libc::STDOUT_FILENO;
 use planner::Planned;
+use reader::Reading;
 use site::Entry;
-use site::Reading;
 use site::Verdict;
 use writer::Written;
 ghost use mathlib.Core.Path.{_≡_};

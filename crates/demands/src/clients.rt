@@ -1,10 +1,10 @@
 // Clients of the public functions: each calls them as a tool would, and promises what the tool's
 // owner was promised.
 use planner::Planned;
+use reader::Reading;
 use site::Cluster;
 use site::Entry;
 use site::Flow;
-use site::Reading;
 use site::Site;
 use site::Tag;
 use site::Verdict;
@@ -12,7 +12,7 @@ use writer::Written;
 ghost use mathlib.Core.Path.{_≡_};
 ghost use mathlib.Core.Bool.{true};
 ghost use Prim.Native.Nat.{_+_, _*_, _≤_};
-ghost use Rattle.site.specs.Reading.{refused as refusedAs};
+ghost use Rattle.reader.specs.Reading.{refused as refusedAs};
 ghost use Rattle.roundtrip.specs.WriterExact.{ExactWriting};
 ghost use Rattle.exactness.specs.CallerExact.{ExactNumber};
 ghost use Rattle.exactness.specs.PlannerExact.{ExactAnswer};
@@ -30,7 +30,7 @@ pub fn commission(text: &[u8], room: &mut [u8]) -> u32
 pub fn read_text(text: &[u8]) -> Reading
     ensures { λ r. ⌜ Surveyed (now (text .entry)) r ⌝ }
 {
-    site::read(text)
+    reader::read(text)
 }
 
 // The planner on records, which may be anything.

@@ -10,7 +10,7 @@ use answers::print_part;
 use answers::print_reading;
 use libc::STDIN_FILENO;
 use patches::read_patches;
-use site::Reading;
+use reader::Reading;
 ghost use mathlib.Core.Path.{_≡_};
 ghost use Prim.Native.Nat.{_≤_};
 ghost use lib.ListN.{length};

@@ -13,13 +13,13 @@ use borrow.Author.Tests.{eqb-true, eqb-false}
 use Rattle.hexline.specs.Lines.{Row, rows}
 use Rattle.hexline.specs.Loops.{decide}
 use Rattle.model.specs.Exactness.{Placeable, Late, Misfit}
-use Rattle.site.specs.declared.Reading.{Reading}
 use Rattle.site.specs.declared.Site.{Site}
 use Rattle.site.specs.declared.Verdict.{Verdict}
 use Rattle.site.specs.declared.Verdict.the-variants.{Accepted, Refused}
 use Rattle.site.specs.Records.{noSite}
-use Rattle.site.specs.Reading.{refusalAt, entered, accepted, readRows, readText}
 use Rattle.site.specs.Table.{due}
+use Rattle.reader.specs.declared.Reading.{Reading}
+use Rattle.reader.specs.Reading.{refusalAt, entered, accepted, readRows, readText}
 use Rattle.plantext.specs.PlanText.{siteOf}
 use Rattle.planner.specs.declared.Planned.{Planned}
 use Rattle.planner.specs.declared.Planned.the-variants.{Plan, Refused as RefusedPlan}

@@ -30,7 +30,7 @@ use Rattle.site.specs.declared.Site.{Site}
 use Rattle.site.specs.declared.Tag.{Tag}
 use Rattle.site.specs.Records.{sameTag, wrongParent}
 use Rattle.site.specs.Table.{entryOf}
-use Rattle.site.specs.Reading.{readText}
+use Rattle.reader.specs.Reading.{readText}
 use Rattle.records.specs.Check.{checked}
 use Rattle.shown.specs.Shown.{lineStart, lineAt, Shown}
 use Rattle.writer.specs.Text.{textOf, written, roomAfter as writtenRoom}

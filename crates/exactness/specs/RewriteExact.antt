@@ -14,7 +14,7 @@ use Rattle.hexline.specs.Room.{handed}
 use Rattle.site.specs.declared.Site.{Site}
 use Rattle.site.specs.declared.Verdict.{Verdict}
 use Rattle.site.specs.declared.Verdict.the-variants.{Accepted, Refused}
-use Rattle.site.specs.Reading.{readText}
+use Rattle.reader.specs.Reading.{readText}
 use Rattle.writer.specs.Text.{textOf, written, roomAfter as writtenRoom}
 use Rattle.commission.specs.Numbers.{rewriteNumber, rewriteRoom}
 use Rattle.roundtrip.specs.LongestSite.{longest-site}

@@ -5,7 +5,7 @@ use mathlib.Core.Logic.{_↔_}
 use Prim.Native.Nat.{ℕ}
 use Rattle.site.specs.declared.Site.{Site}
 use Rattle.site.specs.declared.Verdict.the-variants.{Accepted}
-use Rattle.site.specs.Reading.{accepted, readText}
+use Rattle.reader.specs.Reading.{accepted, readText}
 use Rattle.records.specs.Check.{checked}
 use Rattle.writer.specs.Text.{textOf}
 use Rattle.roundtrip.specs.Kept.{kept}

@@ -20,8 +20,8 @@ use Rattle.site.specs.declared.Site.{Site}
 use Rattle.site.specs.Records.{noSite}
 use Rattle.site.specs.Lines.{clusterOf, flowOf}
 use Rattle.site.specs.Table.{due, refusal}
-use Rattle.site.specs.Reading.{withHeader, withCluster, withFlow, refusalAt, entered, refused, readRows, readText}
-use Rattle.site.specs.ReadLaws.{rows-taken, rows-refused}
+use Rattle.reader.specs.Reading.{withHeader, withCluster, withFlow, refusalAt, entered, refused, readRows, readText}
+use Rattle.reader.specs.ReadLaws.{rows-taken, rows-refused}
 use Rattle.roundtrip.specs.Due.{cluster-due, flow-due, none-due}
 use Rattle.records.specs.Checked.{header-in}
 use Rattle.roundtrip.specs.LinesAgain.{taken-well, taken-is-due, taken-length, taken-header}

@@ -14,7 +14,7 @@ use Rattle.site.specs.declared.Tag.{Tag}
 use Rattle.site.specs.declared.Cluster.{Cluster}
 use Rattle.site.specs.declared.Site.{Site}
 use Rattle.site.specs.Records.{noCluster, noFlow, absent, sameTag, printableTag, clusterOutside, tagTaken}
-use Rattle.site.specs.Reading.{withCluster, withFlow}
+use Rattle.reader.specs.Reading.{withCluster, withFlow}
 
 -- the bytes up to the length, zeros behind
 unfoldable pub keptTag : Tag → Tag

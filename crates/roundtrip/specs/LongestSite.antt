@@ -14,7 +14,7 @@ use Rattle.site.specs.declared.Cluster.{Cluster}
 use Rattle.site.specs.declared.Flow.{Flow}
 use Rattle.site.specs.declared.Site.{Site}
 use Rattle.site.specs.Records.{absent, noFlow}
-use Rattle.site.specs.Reading.{accepted, readText}
+use Rattle.reader.specs.Reading.{accepted, readText}
 use Rattle.writer.specs.Text.{headerBytes, clusterBytes, flowBytes, textOf}
 use Rattle.records.specs.Checked.{checked-unrefused, counts-in, site-cluster-in, clusters-reach, flows-reach}
 use Rattle.roundtrip.specs.LinesBack.{header-size, cluster-size, flow-size}

@@ -19,8 +19,8 @@ use Rattle.site.specs.declared.Site.{Site}
 use Rattle.site.specs.declared.Verdict.the-variants.{Accepted}
 use Rattle.site.specs.Records.{absent, noFlow, noSite}
 use Rattle.site.specs.Table.{due}
-use Rattle.site.specs.Reading.{withHeader, refusalAt, entered, accepted, readRows, readText}
-use Rattle.site.specs.ReadLaws.{rows-taken}
+use Rattle.reader.specs.Reading.{withHeader, refusalAt, entered, accepted, readRows, readText}
+use Rattle.reader.specs.ReadLaws.{rows-taken}
 use Rattle.records.specs.Check.{checked}
 use Rattle.writer.specs.Text.{headerBytes, clusterBytes, flowBytes, textOf}
 use Rattle.roundtrip.specs.Due.{cluster-due, flow-due, none-due}

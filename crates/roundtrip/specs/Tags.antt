@@ -19,7 +19,7 @@ use Rattle.site.specs.declared.Verdict.the-variants.{Accepted, Refused}
 use Rattle.site.specs.Records.{noSite, sameTag, printableTag, headerOutside, clusterOutside, wrongParent, tagTaken}
 use Rattle.site.specs.Lines.{size, tagAt, clusterOf}
 use Rattle.site.specs.Table.{due, wrongKind, wrongLength, outside, misplaced, repeated, refusal}
-use Rattle.site.specs.Reading.{withHeader, withCluster, entered, readRows, readText}
+use Rattle.reader.specs.Reading.{withHeader, withCluster, entered, readRows, readText}
 
 both-hold : (p q : Bool) → p && q ≡ true → (p ≡ true) × (q ≡ true)
 both-hold true q e = (refl, e)

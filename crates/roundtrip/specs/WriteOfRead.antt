@@ -20,12 +20,12 @@ use Rattle.site.specs.declared.Tag.{Tag}
 use Rattle.site.specs.declared.Cluster.{Cluster}
 use Rattle.site.specs.declared.Flow.{Flow}
 use Rattle.site.specs.declared.Site.{Site}
-use Rattle.site.specs.declared.Reading.{Reading}
 use Rattle.site.specs.declared.Verdict.the-variants.{Accepted, Refused}
 use Rattle.site.specs.Records.{absent, noFlow, noSite, sameTag, headerOutside, wrongParent, tagTaken}
 use Rattle.site.specs.Lines.{tagAt, clusterOf, flowOf}
 use Rattle.site.specs.Table.{due}
-use Rattle.site.specs.Reading.{withHeader, withCluster, withFlow, refusalAt, entered, accepted, readRows, readText}
+use Rattle.reader.specs.declared.Reading.{Reading}
+use Rattle.reader.specs.Reading.{withHeader, withCluster, withFlow, refusalAt, entered, accepted, readRows, readText}
 use Rattle.records.specs.Check.{clusterRefusal, flowRefusal, checked}
 use Rattle.writer.specs.Text.{headerBytes, clusterBytes, flowBytes, textOf}
 use Rattle.roundtrip.specs.Due.{cluster-due, flow-due, none-due}

@@ -14,7 +14,7 @@ use Rattle.hexline.specs.Room.{handed}
 use Rattle.site.specs.declared.Site.{Site}
 use Rattle.site.specs.declared.Verdict.{Verdict}
 use Rattle.site.specs.declared.Verdict.the-variants.{Accepted, Refused}
-use Rattle.site.specs.Reading.{accepted, readText}
+use Rattle.reader.specs.Reading.{accepted, readText}
 use Rattle.records.specs.Check.{checked}
 use Rattle.records.specs.CheckNumbers.{ByRecords, check-by-records}
 use Rattle.writer.specs.declared.Written.{Written}

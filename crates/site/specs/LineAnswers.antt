@@ -1,6 +1,6 @@
 -- What the line reader's answer says, in the terms of docs/FORMATS.md, "Refusal numbers" and "Site text": the lowest number of the tests that hold with the line's
 -- number, or the values of the fields at their places in the line.
-use mathlib.Core.Path.{_≡_, refl}
+use mathlib.Core.Path.{_≡_}
 use mathlib.Core.Bool.{cond}
 use mathlib.Core.List.{List, [], _∷_}
 use mathlib.Core.Logic.{inl, inr}
@@ -9,7 +9,7 @@ use lib.Dec.{eqb}
 use Rattle.hexline.specs.Digits.{byteAt, numberAt}
 use Rattle.hexline.specs.Lines.{Row}
 use Rattle.hexline.specs.Loops.{decide}
-use Rattle.site.specs.Answers.{Answer, gives, refuses, entrySays}
+use Rattle.site.specs.Answers.{gives, refuses, entrySays}
 use Rattle.site.specs.Lines.{flowOf}
 use Rattle.site.specs.Table.{lowest, due, byKind, lineTests, recordOf, entryOf}
 

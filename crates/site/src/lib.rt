@@ -1,13 +1,11 @@
-// Sites (docs/FORMATS.md, "Site text", "Refusal numbers"): the records, the line reader and the
-// reader of a whole text.
+// Sites (docs/FORMATS.md, "Site text", "Refusal numbers"): the records and the line reader.
 mod line;
-mod prints;
-mod reader;
 mod tags;
 
 pub use line::bad_parent;
+pub use line::due_at;
+pub use line::line_entry;
 pub use line::read_line;
-pub use reader::read;
 pub use tags::counted;
 pub use tags::same_tag;
 
@@ -82,10 +80,4 @@ pub enum Entry {
 pub enum Verdict {
     Accepted,
     Refused { number: u8, line: usize },
-}
-
-// A text's records, all zero after a refusal, and the verdict.
-pub struct Reading {
-    pub site: Site,
-    pub verdict: Verdict,
 }

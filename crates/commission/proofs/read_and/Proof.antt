@@ -4,9 +4,9 @@ use mathlib.Core.Path.{_≡_, sym, ap, _∙_, subst}
 use mathlib.Core.List.{List}
 use Prim.Native.Nat.{ℕ}
 use native.Mathlib.Omega.{arith}
-use Rattle.site.specs.declared.Reading.{Reading}
 use Rattle.site.specs.declared.Verdict.the-variants.{Refused}
 use Rattle.site.specs.Answers.{refuses}
+use Rattle.reader.specs.declared.Reading.{Reading}
 use Rattle.writer.specs.declared.Written.{Written}
 use Rattle.writer.specs.Text.{writtenSays}
 use Rattle.planner.specs.declared.Planned.{Planned}

@@ -1,0 +1,10 @@
+-- the reader
+pub mod Reading
+-- what tells tags apart while reading
+pub mod Prints
+-- laws of them, which the code and the theorems use
+pub mod LineTags
+pub mod PrintLaws
+pub mod ReadLaws
+pub mod LeftLaws
+pub mod Reached
