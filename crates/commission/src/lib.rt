@@ -6,7 +6,7 @@ use writer::Written;
 ghost use mathlib.Core.Path.{_≡_};
 ghost use Prim.Native.Nat.{_≤_};
 ghost use lib.ListN.{length};
-ghost use Rattle.hexline.specs.Room.{handed};
+ghost use Rattle.hexroom.specs.Room.{handed};
 ghost use Rattle.site.specs.Answers.{refuses};
 ghost use Rattle.shown.specs.Shown.{lineStart, lineAt};
 ghost use Rattle.writer.specs.Text.{fitting};

@@ -16,7 +16,7 @@ fn print_line(widths: &[usize], values: &[u64])
     requires { ⌜ (length (now widths) ≡ length (now values)) × (length (fieldBytes (now widths) (now values)) ≤ 8) ⌝ }
 {
     let mut line = [0u8; 17];
-    let n = hexline::put_line(&mut line, 0, widths, values, b"");
+    let n = hexroom::put_line(&mut line, 0, widths, values, b"");
     io::write_all(STDOUT_FILENO, &line[..n]);
 }
 

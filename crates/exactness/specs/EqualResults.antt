@@ -12,7 +12,7 @@ use Rattle.hexline.specs.Digits.{isDigit, digit, hexOf, byteAt, numberAt, hexes
 use Rattle.hexline.specs.Loops.{filled}
 use Rattle.hexline.specs.Decoded.{Decoded}
 use Rattle.hexline.specs.Lines.{Row, lineLength, malformed}
-use Rattle.hexline.specs.Room.{put}
+use Rattle.hexroom.specs.Room.{put}
 use Rattle.model.specs.declared.Order.{Order}
 use Rattle.model.specs.Counting.{at as numberIn, values}
 use Rattle.model.specs.Orders.{portion, interval, lengthAt, permitted}

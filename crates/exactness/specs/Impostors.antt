@@ -7,9 +7,9 @@ use native.Mathlib.Omega.{arith}
 use lib.ListN.{length, getD, take, replicate}
 use Rattle.hexline.specs.Digits.{digit, byteAt, numberAt, hexOf, hexes, numberBytes, fieldBytes, lineOf}
 use Rattle.hexline.specs.Lines.{rows}
-use Rattle.hexline.specs.Listing.{linesOf}
+use Rattle.hexroom.specs.Listing.{linesOf}
 use Rattle.hexline.specs.Loops.{every}
-use Rattle.hexline.specs.Room.{handed}
+use Rattle.hexroom.specs.Room.{handed}
 use Rattle.model.specs.Constraints.{treeConstraints, descent, constraints}
 use Rattle.model.specs.Counting.{sumBelow, allBelow, leastWhere, values}
 use Rattle.model.specs.Crossings.{allowed}

@@ -11,8 +11,8 @@ use lib.Dec.{eqb}
 use borrow.Author.Tests.{leb-true, eqb-true, eqb-false}
 use Rattle.hexline.specs.Digits.{byteAt, numberAt, hexes}
 use Rattle.hexline.specs.Lines.{rows}
-use Rattle.hexline.specs.Listing.{linesOf}
-use Rattle.hexline.specs.RoundTrip.{Fit, fieldsAt, fields-back, number-one, rows-line}
+use Rattle.hexroom.specs.Listing.{linesOf}
+use Rattle.hexroom.specs.RoundTrip.{Fit, fieldsAt, fields-back, number-one, rows-line}
 use Rattle.model.specs.Counting.{Each, bit, member, sumBelow, sumOver}
 use Rattle.model.specs.CountingLaws.{passes-or-fails, and-both, member-other, length-is-sum, sum-of-ones}
 use Rattle.model.specs.Exactness.{Permitted, IsPlan}

@@ -7,7 +7,7 @@ use native.Mathlib.Nat.{suc-mul}
 use native.Mathlib.Omega.{arith}
 use lib.ListN.{length, getD, length-append}
 use Rattle.hexline.specs.Digits.{lineOf}
-use Rattle.hexline.specs.Listing.{linesOf}
+use Rattle.hexroom.specs.Listing.{linesOf}
 use Rattle.model.specs.Counting.{sumBelow, sumOver}
 use Rattle.model.specs.CountingLaws.{sum-same}
 use Rattle.model.specs.Exactness.{IsPlan}

@@ -14,7 +14,7 @@ use lib.Seq.{take-append-seam}
 use borrow.Author.Tests.{leb-true, leb-false}
 use Rattle.hexline.specs.Lines.{rows}
 use Rattle.hexline.specs.Loops.{decide}
-use Rattle.hexline.specs.Room.{handed}
+use Rattle.hexroom.specs.Room.{handed}
 use Rattle.model.specs.Exactness.{Permitted, Placeless, Placeable, Late, Misfit, Exact, plan-is-exact}
 use Rattle.model.specs.Placing.{Placing}
 use Rattle.model.specs.Plans.{Outcome, planned, noFit, noPlacing, plan}

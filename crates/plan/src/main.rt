@@ -10,7 +10,7 @@ fn refuse(answer: u32) {
     let room: &mut [u8] = &mut space;
     let widths = [1, 1, 2];
     let values = [143, (answer / 65536 % 256) as u64, (answer % 65536) as u64];
-    hexline::put_line(room, 0, &widths, &values, b"");
+    hexroom::put_line(room, 0, &widths, &values, b"");
     io::write_all(STDOUT_FILENO, room);
 }
 

@@ -5,7 +5,7 @@ use mathlib.Core.List.{List, [], _∷_}
 use Prim.Native.Nat.{ℕ}
 use lib.ListN.{length}
 use lib.Dec.{leb}
-use Rattle.hexline.specs.Room.{handed}
+use Rattle.hexroom.specs.Room.{handed}
 use Rattle.model.specs.Plans.{Outcome, planned, noFit, noPlacing, refusalOf, plan}
 use Rattle.site.specs.declared.Site.{Site}
 use Rattle.site.specs.declared.Verdict.{Verdict}

@@ -5,7 +5,7 @@ use mathlib.Core.List.{List, [], _∷_, _++_, map}
 use Prim.Native.Nat.{ℕ, _≤_, _<_}
 use lib.ListN.{length, getD, take}
 use Rattle.hexline.specs.Digits.{fieldBytes, lineOf}
-use Rattle.hexline.specs.Listing.{linesOf}
+use Rattle.hexroom.specs.Listing.{linesOf}
 use Rattle.model.specs.Counting.{member}
 use Rattle.model.specs.Orders.{portion}
 use Rattle.model.specs.Sequences.{starts}

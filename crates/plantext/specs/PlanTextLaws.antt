@@ -10,8 +10,8 @@ use lib.ListN.{length, getD, take, drop, length-append, List·getD-map}
 use lib.Dec.{eqb}
 use lib.Seq.{take-suc, split-at, getD-take, take-length, length-take-le}
 use Rattle.hexline.specs.Digits.{numberBytes, fieldBytes, lineOf}
-use Rattle.hexline.specs.Listing.{linesOf}
-use Rattle.hexline.specs.Room.{put, put-append, line-length}
+use Rattle.hexroom.specs.Listing.{linesOf}
+use Rattle.hexroom.specs.Room.{put, put-append, line-length}
 use Rattle.model.specs.Counting.{at, member, sumOver}
 use Rattle.model.specs.CountingLaws.{or-neither}
 use Rattle.model.specs.Orders.{portion}

@@ -8,7 +8,7 @@ ghost use mathlib.Core.Path.{_≡_};
 ghost use Prim.Native.Nat.{ℕ, _+_, _≤_};
 ghost use lib.ListN.{length as size};
 ghost use Rattle.hexline.specs.Digits.{lineOf};
-ghost use Rattle.hexline.specs.Room.{put as putAt};
+ghost use Rattle.hexroom.specs.Room.{put as putAt};
 ghost use Rattle.plantext.specs.PlanText.{planHeader, clusterLine, planLines, planText, Placed};
 
 // Writes the header line at the room's start, and gives the place behind it.
@@ -18,7 +18,7 @@ fn put_header(room: &mut [u8], order: u8, clusters: u8) -> usize
 {
     let widths = [1, 1, 1, 1];
     let values = [0x81, 1, order as u64, clusters as u64];
-    hexline::put_line(room, 0, &widths, &values, b"")
+    hexroom::put_line(room, 0, &widths, &values, b"")
 }
 
 // Writes the line of a cluster at `at`, and gives the place behind it.
@@ -36,7 +36,7 @@ fn put_cluster(room: &mut [u8], at: usize, cluster: u8, start: u32, portion: u32
         portion as u64,
         tag.len as u64,
     ];
-    hexline::put_line(room, at, &widths, &values, &bytes[..n])
+    hexroom::put_line(room, at, &widths, &values, &bytes[..n])
 }
 
 // Writes the lines of the clusters in order of start at `at`, each starting where the one before it

@@ -13,7 +13,7 @@ use Rattle.hexline.specs.Loops.{decide, filled, filled-length, filled-at}
 use Rattle.hexline.specs.Digits.{byteAt, bytesOf, hexes, fieldBytes, lineOf}
 use Rattle.hexline.specs.Lines.{Row, onto, rows}
 use Rattle.hexline.specs.LineLaws.{AllFalse, none-of, WellFormed, well-formed}
-use Rattle.hexline.specs.RoundTrip.{fieldsAt, total, fields-again, bytes-length, bytes-at, number-one, encode-decode}
+use Rattle.hexroom.specs.RoundTrip.{fieldsAt, total, fields-again, bytes-length, bytes-at, number-one, encode-decode}
 use Rattle.site.specs.declared.Cluster.{Cluster}
 use Rattle.site.specs.Records.{headerOutside, clusterOutside, flowOutside, wrongParent, tagTaken}
 use Rattle.site.specs.Lines.{size, tagAt, clusterOf, flowOf}

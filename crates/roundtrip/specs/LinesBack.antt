@@ -10,8 +10,8 @@ use borrow.Author.Tests.{eq-eqb, ne-eqb}
 use Rattle.hexline.specs.Loops.{filled-same}
 use Rattle.hexline.specs.Digits.{byteAt, numberAt, hexes, numberBytes, fieldBytes}
 use Rattle.hexline.specs.Lines.{Row}
-use Rattle.hexline.specs.Room.{hexes-length}
-use Rattle.hexline.specs.RoundTrip.{Fit, fieldsAt, total, fields-back, tail-back, number-one, written-well}
+use Rattle.hexroom.specs.Room.{hexes-length}
+use Rattle.hexroom.specs.RoundTrip.{Fit, fieldsAt, total, fields-back, tail-back, number-one, written-well}
 use Rattle.site.specs.declared.Cluster.{Cluster}
 use Rattle.site.specs.declared.Flow.{Flow}
 use Rattle.site.specs.Records.{headerOutside, clusterOutside, flowOutside, wrongParent, tagTaken}

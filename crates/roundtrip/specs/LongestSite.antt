@@ -7,9 +7,9 @@ use native.Mathlib.Omega.{arith}
 use native.Mathlib.Nat.{suc-mul}
 use lib.ListN.{length, getD, take, length-append, length-take}
 use lib.Seq.{getD-take, length-take-le}
-use Rattle.hexline.specs.Listing.{linesOf}
+use Rattle.hexroom.specs.Listing.{linesOf}
 use Rattle.hexline.specs.Digits.{lineOf}
-use Rattle.hexline.specs.Room.{line-length}
+use Rattle.hexroom.specs.Room.{line-length}
 use Rattle.site.specs.declared.Cluster.{Cluster}
 use Rattle.site.specs.declared.Flow.{Flow}
 use Rattle.site.specs.declared.Site.{Site}

@@ -8,11 +8,11 @@ use native.Mathlib.Omega.{arith}
 use native.Mathlib.Numerals.{add-one}
 use lib.ListN.{length, getD, take, drop, drop-of-length-le}
 use lib.Seq.{drop-cons, getD-take, length-take-le}
-use Rattle.hexline.specs.Listing.{linesOf}
+use Rattle.hexroom.specs.Listing.{linesOf}
 use Rattle.hexline.specs.Loops.{filled}
 use Rattle.hexline.specs.Digits.{byteAt, hexes, lineOf}
 use Rattle.hexline.specs.Lines.{rows}
-use Rattle.hexline.specs.RoundTrip.{rows-line}
+use Rattle.hexroom.specs.RoundTrip.{rows-line}
 use Rattle.site.specs.declared.Cluster.{Cluster}
 use Rattle.site.specs.declared.Flow.{Flow}
 use Rattle.site.specs.declared.Site.{Site}

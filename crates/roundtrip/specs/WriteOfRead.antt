@@ -12,7 +12,7 @@ use lib.ListN.{length, getD, take, set, length-set}
 use lib.Seq.{getD-set-same, getD-set-other, take-suc-set}
 use lib.Dec.{ltb, eqb}
 use borrow.Author.Tests.{ltb-true, ltb-false, eqb-true, eqb-false}
-use Rattle.hexline.specs.Listing.{linesOf}
+use Rattle.hexroom.specs.Listing.{linesOf}
 use Rattle.hexline.specs.Loops.{decide, every-same}
 use Rattle.hexline.specs.Digits.{byteAt, lineOf}
 use Rattle.hexline.specs.Lines.{Row, rows}

@@ -6,8 +6,8 @@ use Prim.Native.Nat.{ℕ}
 use lib.ListN.{length, take}
 use lib.Dec.{leb}
 use Rattle.hexline.specs.Digits.{fieldBytes, lineOf}
-use Rattle.hexline.specs.Listing.{linesOf}
-use Rattle.hexline.specs.Room.{handed}
+use Rattle.hexroom.specs.Listing.{linesOf}
+use Rattle.hexroom.specs.Room.{handed}
 use Rattle.site.specs.declared.Cluster.{Cluster}
 use Rattle.site.specs.declared.Flow.{Flow}
 use Rattle.site.specs.declared.Site.{Site}

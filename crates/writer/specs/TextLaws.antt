@@ -10,8 +10,8 @@ use lib.Dec.{leb}
 use borrow.Author.Tests.{leb-true, leb-false}
 use Rattle.hexline.specs.Loops.{decide}
 use Rattle.hexline.specs.Digits.{numberBytes, fieldBytes, lineOf}
-use Rattle.hexline.specs.Listing.{linesOf}
-use Rattle.hexline.specs.Room.{put, put-append, line-length}
+use Rattle.hexroom.specs.Listing.{linesOf}
+use Rattle.hexroom.specs.Room.{put, put-append, line-length}
 use Rattle.site.specs.declared.Cluster.{Cluster}
 use Rattle.site.specs.declared.Flow.{Flow}
 use Rattle.site.specs.declared.Site.{Site}

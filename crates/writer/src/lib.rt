@@ -7,8 +7,8 @@ ghost use mathlib.Core.Path.{_≡_};
 ghost use Prim.Native.Nat.{_+_, _*_, _≤_};
 ghost use lib.ListN.{length, take};
 ghost use Rattle.hexline.specs.Digits.{lineOf};
-ghost use Rattle.hexline.specs.Listing.{linesOf};
-ghost use Rattle.hexline.specs.Room.{put, handed};
+ghost use Rattle.hexroom.specs.Listing.{linesOf};
+ghost use Rattle.hexroom.specs.Room.{put, handed};
 ghost use Rattle.records.specs.Check.{checked};
 ghost use Rattle.writer.specs.Text.{headerBytes, clusterBytes, flowBytes, textOf, fitting, written, roomAfter};
 
@@ -25,7 +25,7 @@ fn put_header(room: &mut [u8], clusters: u8, flows: u8) -> usize
 {
     let widths = [1, 1, 1, 1];
     let values = [1, 1, clusters as u64, flows as u64];
-    hexline::put_line(room, 0, &widths, &values, b"")
+    hexroom::put_line(room, 0, &widths, &values, b"")
 }
 
 // Writes the line of a cluster at `at`, and gives the place behind it.
@@ -38,7 +38,7 @@ fn put_cluster(room: &mut [u8], at: usize, c: Cluster) -> usize
     let n = site::counted(tag.len);
     let widths = [1, 1, 1, 1];
     let values = [2, c.parent as u64, c.order as u64, tag.len as u64];
-    hexline::put_line(room, at, &widths, &values, &bytes[..n])
+    hexroom::put_line(room, at, &widths, &values, &bytes[..n])
 }
 
 // Writes the line of a flow at `at`, and gives the place behind it.
@@ -54,7 +54,7 @@ fn put_flow(room: &mut [u8], at: usize, f: Flow) -> usize
         f.period as u64,
         f.deadline as u64,
     ];
-    hexline::put_line(room, at, &widths, &values, b"")
+    hexroom::put_line(room, at, &widths, &values, b"")
 }
 
 // Writes the lines of the first n clusters at `at`, and gives the place behind them.

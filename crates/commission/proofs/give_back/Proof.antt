@@ -6,7 +6,7 @@ use native.Mathlib.Omega.{arith}
 use borrow.Author.Tests.{le-leb, lt-leb}
 use lib.ListN.{length, drop}
 use lib.Seq.{take-length}
-use Rattle.hexline.specs.Room.{handed, short-handed}
+use Rattle.hexroom.specs.Room.{handed, short-handed}
 use borrow.Author.Needs.{needs}
 use Rattle.commission.proofs.give_back.Statement.{statement}
 use Rattle.commission.proofs.give_back.Tie as tie

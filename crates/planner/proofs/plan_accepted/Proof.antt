@@ -7,7 +7,7 @@ use native.Mathlib.Omega.{arith}
 use lib.ListN.{length, take, drop, replicate, length-append}
 use lib.Seq.{length-take-le, take-append-le}
 use borrow.Author.Tests.{le-leb, lt-leb}
-use Rattle.hexline.specs.Room.{put-handed, short-handed}
+use Rattle.hexroom.specs.Room.{put-handed, short-handed}
 use Rattle.model.specs.Plans.{plan, planned}
 use Rattle.plantext.specs.PlanText.{siteOf, planText, Placed}
 use Rattle.site.specs.declared.Site.{Site}

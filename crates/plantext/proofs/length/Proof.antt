@@ -4,7 +4,7 @@ use mathlib.Core.List.{List}
 use Prim.Native.Nat.{ℕ, _+_, _*_, _-_, _≤_}
 use native.Mathlib.Omega.{arith}
 use lib.ListN.{length}
-use Rattle.hexline.specs.Listing.{left, left-none, left-length}
+use Rattle.hexroom.specs.Listing.{left, left-none, left-length}
 use Rattle.plantext.specs.PlanText.{planLine, planLines}
 use Rattle.plantext.specs.PlanTextLaws.{cluster-in-range, index-in-range, lines-all, length-here, text-length}
 use borrow.Author.Needs.{needs}

@@ -5,7 +5,7 @@ use mathlib.Core.List.{List}
 use Prim.Native.Nat.{ℕ, _*_, _-_, _≤_, _<_}
 use native.Mathlib.Omega.{arith}
 use lib.ListN.{length, getD, take}
-use Rattle.hexline.specs.Listing.{Putting, putting-starts, putting-next, putting-ends, next-fits}
+use Rattle.hexroom.specs.Listing.{Putting, putting-starts, putting-next, putting-ends, next-fits}
 use Rattle.model.specs.Counting.{at as numberIn, sumOver}
 use Rattle.model.specs.Orders.{portion, lengthAt}
 use Rattle.model.specs.OrderLaws.{order-has-length, symbols-bounded}

@@ -3,7 +3,7 @@ use mathlib.Core.Path.{_≡_, ap}
 use Prim.Native.Nat.{_+_, _*_, _≤_, _-_}
 use native.Mathlib.Omega.{arith}
 use lib.ListN.{length, take}
-use Rattle.hexline.specs.Listing.{linesOf, left, left-none, left-length}
+use Rattle.hexroom.specs.Listing.{linesOf, left, left-none, left-length}
 use Rattle.site.specs.Records.{absent}
 use Rattle.writer.specs.Text.{clusterBytes}
 use borrow.Author.Needs.{needs}

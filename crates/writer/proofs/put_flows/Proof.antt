@@ -2,7 +2,7 @@
 -- `at`.
 use Prim.Native.Nat.{_≤_, _-_}
 use lib.ListN.{length}
-use Rattle.hexline.specs.Listing.{Putting, putting-starts, putting-next, putting-ends, next-fits}
+use Rattle.hexroom.specs.Listing.{Putting, putting-starts, putting-next, putting-ends, next-fits}
 use Rattle.site.specs.Records.{noFlow}
 use Rattle.writer.specs.Text.{flowBytes}
 use borrow.Author.Needs.{needs}

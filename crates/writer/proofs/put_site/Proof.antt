@@ -5,7 +5,7 @@ use Prim.Native.Nat.{_+_, _≤_, _<_}
 use native.Mathlib.Omega.{arith}
 use lib.ListN.{length}
 use borrow.Author.Tests.{le-leb, lt-leb}
-use Rattle.hexline.specs.Room.{put-handed, short-handed}
+use Rattle.hexroom.specs.Room.{put-handed, short-handed}
 use Rattle.writer.specs.declared.Written.the-variants.{Length}
 use Rattle.writer.specs.Text.{textOf}
 use Rattle.writer.specs.TextLaws.{header-length, text-length, text-put}

@@ -6,7 +6,7 @@ use native.Mathlib.Omega.{arith}
 use lib.ListN.{length}
 use lib.Seq.{length-take-le}
 use Rattle.hexline.specs.Digits.{fieldBytes}
-use Rattle.hexline.specs.Room.{fields-line-length}
+use Rattle.hexroom.specs.Room.{fields-line-length}
 use borrow.Author.Needs.{needs}
 use Rattle.demands.proofs.answers.print_line.Statement.{statement}
 use Rattle.demands.proofs.answers.print_line.Tie as tie

@@ -1,8 +1,8 @@
--- `hexline::digit_offset` meets its contract: the test of the code is that of the definition.
+-- `hexroom::digit_offset` meets its contract: the test of the code is that of the definition.
 use borrow.Author.Tests.{lt-ltb, le-ltb}
 use borrow.Author.Needs.{needs}
-use Rattle.hexline.proofs.digit_offset.Statement.{statement}
-use Rattle.hexline.proofs.digit_offset.Tie as tie
+use Rattle.hexroom.proofs.digit_offset.Statement.{statement}
+use Rattle.hexroom.proofs.digit_offset.Tie as tie
 
 returns : tie.Need-returns
 returns c = (simp (lt-ltb _ _ (c .if1 .taken)), search needs)
