@@ -10,7 +10,7 @@ use lib.ListN.{set}
 use lib.Dec.{leb, ltb, eqb}
 use lib.Seq.{set-comm, set-set}
 use borrow.Author.Tests.{leb-true, leb-false, ltb-true, ltb-false, eqb-true, eqb-false}
-use Rattle.hexline.specs.Loops.{decide, every, every-at, every-all, every-next, filled, filled-more}
+use Rattle.hexline.specs.Loops.{decide, every, every-at, every-all, filled, filled-more}
 
 -- the list with f j stored at place at + j for each j below n
 unfoldable pub laid : (ℕ → ℕ) → List ℕ → ℕ → ℕ → List ℕ
@@ -58,10 +58,6 @@ module _ (f g : ℕ → ℕ) (o : List ℕ) (at : ℕ) where
         let d : m ≡ at + suc n = omega arith in
         laid-inside m (suc n) (omega arith) e ∙ ap (filled g o) d
   ]
-
--- two places more
-pub every-pair : (f : ℕ → Bool) (i : ℕ) → ((every (2 * i) f && f (2 * i)) && f (2 * i + 1)) ≡ every (2 * (i + 1)) f
-every-pair f i = rw (every-next f (2 * i), every-next f (2 * i + 1)) (ap (λ (n : ℕ). every n f) (omega arith))
 
 -- a test of every place below m and of a block that begins at or before m
 pub every-join : (f : ℕ → Bool) (m at n : ℕ) → at ≤ m → m ≤ at + n → (every m f && every n (λ j. f (at + j))) ≡ every (at + n) f

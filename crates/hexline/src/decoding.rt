@@ -1,6 +1,7 @@
 // A line decoded once, from digits into bytes (docs/FORMATS.md, "Site text"), in blocks of sixteen
 // characters: no character ends a block early and none is looked up, so that a block is worked on
 // as a whole. What a line is, is then read off the bytes.
+use crate::byte_at;
 use crate::is_digit;
 ghost use mathlib.Core.Path.{_≡_};
 ghost use mathlib.Core.Bool.{true};
@@ -18,14 +19,14 @@ fn nibble(c: u8) -> u8
     c % 16 + 9 * (c / 64)
 }
 
-// Whether the sixteen characters from `at` on are digits.
-fn sixteen_digits(line: &[u8], at: usize) -> bool
-    requires { ⌜ at + 16 ≤ length (now line) ⌝ }
-    ensures { λ r. ⌜ r ≡ every 16 (λ j. isDigit (getD (now (line .entry)) (at + j) 0)) ⌝ }
+// Whether the n characters from `at` on are digits.
+fn are_digits(line: &[u8], at: usize, n: usize) -> bool
+    requires { ⌜ at + n ≤ length (now line) ⌝ }
+    ensures { λ r. ⌜ r ≡ every n (λ j. isDigit (getD (now (line .entry)) (at + j) 0)) ⌝ }
 {
     let mut all = true;
     let mut j: usize = 0;
-    while j < 16 {
+    while j < n {
         all = all & is_digit(line[at + j]);
         j += 1;
     }
@@ -58,22 +59,17 @@ fn store_eight(nibbles: [u8; 16], at: usize, out: &mut [u8; 68])
     }
 }
 
-// A line of fewer than sixteen characters, pair by pair.
+// A line of fewer than sixteen characters, byte by byte.
 fn decode_few(line: &[u8], out: &mut [u8; 68]) -> bool
     requires { ⌜ length (now line) ≤ 136 ⌝ }
-    ensures { λ r. ⌜ (r ≡ every (2 * (length (now (line .entry)) / 2)) (λ i. isDigit (getD (now (line .entry)) i 0))) × (now (out .exit) ≡ filled (rawAt (now (line .entry))) (now (out .entry)) (length (now (line .entry)) / 2)) ⌝ }
+    ensures { λ r. ⌜ (r ≡ allDigits (now (line .entry))) × (now (out .exit) ≡ filled (byteAt (now (line .entry))) (now (out .entry)) (length (now (line .entry)) / 2)) ⌝ }
 {
-    let n = line.len() / 2;
-    let mut all = true;
     let mut i: usize = 0;
-    while i < n {
-        let h = line[2 * i];
-        let l = line[2 * i + 1];
-        all = all & is_digit(h) & is_digit(l);
-        out[i] = nibble(h) % 16 * 16 + nibble(l) % 16;
+    while i < line.len() / 2 {
+        out[i] = byte_at(line, i);
         i += 1;
     }
-    all
+    are_digits(line, 0, line.len())
 }
 
 // Where the next eight of n pairs begin, after i of them: at i, or so that they end at n.
@@ -95,7 +91,7 @@ fn decode_eights(line: &[u8], out: &mut [u8; 68]) -> bool
     let mut i: usize = 0;
     while i < n {
         let at = next_eight(n, i);
-        all = all & sixteen_digits(line, 2 * at);
+        all = all & are_digits(line, 2 * at, 16);
         store_eight(sixteen_nibbles(line, 2 * at), at, out);
         i = at + 8;
     }

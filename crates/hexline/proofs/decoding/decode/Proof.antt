@@ -1,4 +1,4 @@
--- `hexline::decoding::decode` meets its contract: pair by pair is the whole line, and where all characters are digits the bytes are those of the definition.
+-- `hexline::decoding::decode` meets its contract: eight pairs at a time reach the whole line, and where all characters are digits the bytes are those of the definition.
 use Rattle.hexline.specs.DecodeLaws.{decoded}
 use borrow.Author.Needs.{needs}
 use Rattle.hexline.proofs.decoding.decode.Statement.{statement}
@@ -8,7 +8,7 @@ decode-few-requires : tie.Need-decode-few-requires
 decode-few-requires c κs = search needs
 
 returns : tie.Need-returns
-returns c = decoded _ _ _ _ (c .before .before .before .before .pre .1) (c .decode-few .ensures .0) (c .decode-few .ensures .1)
+returns c = (c .decode-few .ensures .0, λ e. c .decode-few .ensures .1)
 
 decode-eights-requires : tie.Need-decode-eights-requires
 decode-eights-requires c κs = search needs

@@ -26,11 +26,11 @@ loop-holds c = (search needs, sym (every-none _), refl)
 next-eight-requires : tie.Need-next-eight-requires Inv-loop μ-loop
 next-eight-requires c κs = search needs
 
-mul-sixteen-digits : tie.Need-mul-sixteen-digits Inv-loop μ-loop
-mul-sixteen-digits c = search needs
+mul-are-digits : tie.Need-mul-are-digits Inv-loop μ-loop
+mul-are-digits c = search needs
 
-sixteen-digits-requires : tie.Need-sixteen-digits-requires Inv-loop μ-loop
-sixteen-digits-requires c κs = search needs
+are-digits-requires : tie.Need-are-digits-requires Inv-loop μ-loop
+are-digits-requires c κs = search needs
 
 mul-sixteen-nibbles : tie.Need-mul-sixteen-nibbles Inv-loop μ-loop
 mul-sixteen-nibbles c = search needs
@@ -52,7 +52,7 @@ loop-again c =
     let was = c .before .before .before .before .before .before in
     let next = c .before .before .before .before .next-eight in (
       search needs,
-      rw (was .loop .inv .1, c .before .before .before .sixteen-digits .ensures) (sixteen-more _ _ _ (next .ensures .0) (omega arith)),
+      rw (was .loop .inv .1, c .before .before .before .are-digits .ensures) (sixteen-more _ _ _ (next .ensures .0) (omega arith)),
       rw (c .store-eight .ensures, was .loop .inv .2, c .before .before .sixteen-nibbles .ensures) (eight-stored _ _ _ _ (next .ensures .0) (omega arith)),
     )
 
@@ -69,8 +69,8 @@ decode-eights-spec =
     μ-loop
     loop-holds
     next-eight-requires
-    mul-sixteen-digits
-    sixteen-digits-requires
+    mul-are-digits
+    are-digits-requires
     mul-sixteen-nibbles
     sixteen-nibbles-requires
     store-eight-requires

@@ -1,4 +1,4 @@
--- `hexline::decoding::sixteen_digits` meets its contract. The invariant: `all` says whether every character before `j` is a digit.
+-- `hexline::decoding::are_digits` meets its contract. The invariant: `all` says whether every character before `j` is a digit.
 use mathlib.Core.Path.{_≡_, sym}
 use Prim.Native.Nat.{_+_, _-_, _≤_}
 use native.Mathlib.Omega.{arith}
@@ -6,14 +6,14 @@ use lib.ListN.{getD}
 use Rattle.hexline.specs.Loops.{every, every-none, every-next}
 use Rattle.hexline.specs.Digits.{isDigit}
 use borrow.Author.Needs.{needs}
-use Rattle.hexline.proofs.decoding.sixteen_digits.Statement.{statement}
-use Rattle.hexline.proofs.decoding.sixteen_digits.Tie as tie
+use Rattle.hexline.proofs.decoding.are_digits.Statement.{statement}
+use Rattle.hexline.proofs.decoding.are_digits.Tie as tie
 
 abbrev Inv-loop : tie.InvT-loop
-Inv-loop line at all₀ j₀ all j = (j ≤ 16) × (all ≡ every j (λ k. isDigit (getD line (at + k) 0)))
+Inv-loop line at n all₀ j₀ all j = (j ≤ n) × (all ≡ every j (λ k. isDigit (getD line (at + k) 0)))
 
 abbrev μ-loop : tie.MeasureT-loop
-μ-loop line at all₀ j₀ all j = 16 - j
+μ-loop line at n all₀ j₀ all j = n - j
 
 loop-holds : tie.Need-loop-holds Inv-loop μ-loop
 loop-holds c = (search needs, sym (every-none _))
@@ -40,11 +40,11 @@ loop-again c =
 
 returns : tie.Need-returns Inv-loop μ-loop
 returns c =
-    let all : c .before .loop .j ≡ 16 = omega arith in
+    let all : c .before .loop .j ≡ c .before .before .before .args .n = omega arith in
     rw all at (c .before .loop .inv .1)
 
-pub sixteen-digits-spec : {M : Type 1} → statement M
-sixteen-digits-spec =
+pub are-digits-spec : {M : Type 1} → statement M
+are-digits-spec =
     tie.close
     (tie.spec
     Inv-loop
