@@ -82,5 +82,6 @@ every-join f m at n h l = elim (decide (every (at + n) f)) [
           rw e at (every-at (λ j. f (at + j)) n (i - at) d (omega arith))
     ]
 
-pub sixteen-more : (f : ℕ → Bool) (i at : ℕ) → at ≤ i → i ≤ at + 8 → (every (2 * i) f && every 16 (λ j. f (2 * at + j))) ≡ every (2 * (at + 8)) f
-sixteen-more f i at h l = every-join f (2 * i) (2 * at) 16 (omega arith) (omega arith) ∙ ap (λ (n : ℕ). every n f) (omega arith)
+-- the same for pairs: a block of n of them that begins at or before the place reached
+pub block-more : (n : ℕ) (f : ℕ → Bool) (i at : ℕ) → at ≤ i → i ≤ at + n → (every (2 * i) f && every (2 * n) (λ j. f (2 * at + j))) ≡ every (2 * (at + n)) f
+block-more n f i at h l = every-join f (2 * i) (2 * at) (2 * n) (omega arith) (omega arith) ∙ ap (λ (m : ℕ). every m f) (omega arith)

@@ -39,24 +39,24 @@ module _ (l : List ℕ) (n : ℕ) (even : length l ≡ 2 * n) (all : allDigits l
   raw-bytes : (o : List ℕ) → filled (rawAt l) o n ≡ filled (byteAt l) o n
   raw-bytes o = filled-same (rawAt l) (byteAt l) o n raw-byte
 
--- the values of sixteen characters from `at` on
-abbrev pub nibblesAt : List ℕ → ℕ → List ℕ
-nibblesAt l at = filled (λ k. nibble (getD l (at + k) 0)) (replicate 16 0) 16
+-- the values of n pairs of characters from `at` on
+abbrev pub nibblesAt : ℕ → List ℕ → ℕ → List ℕ
+nibblesAt n l at = filled (λ k. nibble (getD l (at + k) 0)) (replicate (2 * n) 0) (2 * n)
 
-pair-raw : (l : List ℕ) (at j : ℕ) → j < 8 → pairAt (nibblesAt l (2 * at)) j ≡ rawAt l (at + j)
+pair-raw : (n : ℕ) (l : List ℕ) (at j : ℕ) → j < n → pairAt (nibblesAt n l (2 * at)) j ≡ rawAt l (at + j)
 unfolding rawAt
-pair-raw l at j h =
-    let zeros : List ℕ = replicate 16 0 in
-    let room : 16 ≤ length zeros = omega (arith, length-replicate {A = ℕ} 16 0) in
-    let p = filled-at (λ k. nibble (getD l (2 * at + k) 0)) zeros 16 0 room (2 * j) (omega arith) in
-    let q = filled-at (λ k. nibble (getD l (2 * at + k) 0)) zeros 16 0 room (2 * j + 1) (omega arith) in
+pair-raw n l at j h =
+    let zeros : List ℕ = replicate (2 * n) 0 in
+    let room : 2 * n ≤ length zeros = omega (arith, length-replicate {A = ℕ} (2 * n) 0) in
+    let p = filled-at (λ k. nibble (getD l (2 * at + k) 0)) zeros (2 * n) 0 room (2 * j) (omega arith) in
+    let q = filled-at (λ k. nibble (getD l (2 * at + k) 0)) zeros (2 * n) 0 room (2 * j + 1) (omega arith) in
     let e : 2 * at + 2 * j ≡ 2 * (at + j) = omega arith in
     let f : 2 * at + (2 * j + 1) ≡ 2 * (at + j) + 1 = omega arith in
     rw (p, q, e, f)
 
--- eight bytes stored at or before the place reached
-pub eight-stored : (l o : List ℕ) (i at : ℕ) → at ≤ i → i ≤ at + 8 → laid (pairAt (nibblesAt l (2 * at))) (filled (rawAt l) o i) at 8 ≡ filled (rawAt l) o (at + 8)
-eight-stored l o i at h k = laid-filled _ (rawAt l) o at i 8 h k (λ j m. pair-raw l at j m)
+-- the bytes of a block stored at or before the place reached
+pub block-stored : (n : ℕ) (l o : List ℕ) (i at : ℕ) → at ≤ i → i ≤ at + n → laid (pairAt (nibblesAt n l (2 * at))) (filled (rawAt l) o i) at n ≡ filled (rawAt l) o (at + n)
+block-stored n l o i at h k = laid-filled _ (rawAt l) o at i n h k (λ j m. pair-raw n l at j m)
 
 -- a line of whole bytes, pair by pair
 pub decoded : (l o out : List ℕ) (r : Bool) → length l % 2 ≡ 0 → r ≡ every (2 * (length l / 2)) (λ i. isDigit (getD l i 0)) → out ≡ filled (rawAt l) o (length l / 2)

@@ -1,4 +1,4 @@
--- `hexline::decoding::decode` meets its contract: eight pairs at a time reach the whole line, and where all characters are digits the bytes are those of the definition.
+-- `hexline::decoding::decode` meets its contract: blocks of pairs reach the whole line, and where all characters are digits the bytes are those of the definition.
 use Rattle.hexline.specs.DecodeLaws.{decoded}
 use borrow.Author.Needs.{needs}
 use Rattle.hexline.proofs.decoding.decode.Statement.{statement}
@@ -14,7 +14,13 @@ decode-eights-requires : tie.Need-decode-eights-requires
 decode-eights-requires c κs = search needs
 
 returns-2 : tie.Need-returns-2
-returns-2 c = decoded _ _ _ _ (c .before .before .before .before .pre .1) (c .decode-eights .ensures .0) (c .decode-eights .ensures .1)
+returns-2 c = decoded _ _ _ _ (c .before .before .before .before .before .pre .1) (c .decode-eights .ensures .0) (c .decode-eights .ensures .1)
+
+decode-sixteens-requires : tie.Need-decode-sixteens-requires
+decode-sixteens-requires c κs = search needs
+
+returns-3 : tie.Need-returns-3
+returns-3 c = decoded _ _ _ _ (c .before .before .before .before .before .pre .1) (c .decode-sixteens .ensures .0) (c .decode-sixteens .ensures .1)
 
 pub decode-spec : {M : Type 1} → statement M
-decode-spec = tie.close (tie.spec decode-few-requires returns decode-eights-requires returns-2)
+decode-spec = tie.close (tie.spec decode-few-requires returns decode-eights-requires returns-2 decode-sixteens-requires returns-3)

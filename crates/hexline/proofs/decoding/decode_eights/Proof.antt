@@ -7,8 +7,8 @@ use lib.ListN.{length, getD}
 use Rattle.hexline.specs.Loops.{every, every-none, filled}
 use Rattle.hexline.specs.Digits.{isDigit}
 use Rattle.hexline.specs.Decoded.{rawAt}
-use Rattle.hexline.specs.Blocks.{sixteen-more}
-use Rattle.hexline.specs.DecodeLaws.{eight-stored}
+use Rattle.hexline.specs.Blocks.{block-more}
+use Rattle.hexline.specs.DecodeLaws.{block-stored}
 use borrow.Author.Needs.{needs}
 use Rattle.hexline.proofs.decoding.decode_eights.Statement.{statement}
 use Rattle.hexline.proofs.decoding.decode_eights.Tie as tie
@@ -52,8 +52,8 @@ loop-again c =
     let was = c .before .before .before .before .before .before in
     let next = c .before .before .before .before .next-eight in (
       search needs,
-      rw (was .loop .inv .1, c .before .before .before .are-digits .ensures) (sixteen-more _ _ _ (next .ensures .0) (omega arith)),
-      rw (c .store-eight .ensures, was .loop .inv .2, c .before .before .sixteen-nibbles .ensures) (eight-stored _ _ _ _ (next .ensures .0) (omega arith)),
+      rw (was .loop .inv .1, c .before .before .before .are-digits .ensures) (block-more 8 _ _ _ (next .ensures .0) (omega arith)),
+      rw (c .store-eight .ensures, was .loop .inv .2, c .before .before .sixteen-nibbles .ensures) (block-stored 8 _ _ _ _ (next .ensures .0) (omega arith)),
     )
 
 returns : tie.Need-returns Inv-loop μ-loop

@@ -17,29 +17,26 @@ abbrev μ-loop : tie.MeasureT-loop
 loop-holds : tie.Need-loop-holds Inv-loop μ-loop
 loop-holds c = (search needs, sym (laid-none _ _ _))
 
-mul-out : tie.Need-mul-out Inv-loop μ-loop
-mul-out c = search needs
+mul-pair : tie.Need-mul-pair Inv-loop μ-loop
+mul-pair c = search needs
 
-array-read-out : tie.Need-array-read-out Inv-loop μ-loop
-array-read-out c = search needs
+array-read-pair : tie.Need-array-read-pair Inv-loop μ-loop
+array-read-pair c = search needs
 
-mul-out-2 : tie.Need-mul-out-2 Inv-loop μ-loop
-mul-out-2 c = search needs
+mul-pair-2 : tie.Need-mul-pair-2 Inv-loop μ-loop
+mul-pair-2 c = search needs
 
-mul-out-3 : tie.Need-mul-out-3 Inv-loop μ-loop
-mul-out-3 c = search needs
+add-pair : tie.Need-add-pair Inv-loop μ-loop
+add-pair c = search needs
+
+array-read-pair-2 : tie.Need-array-read-pair-2 Inv-loop μ-loop
+array-read-pair-2 c = search needs
+
+pair-requires : tie.Need-pair-requires Inv-loop μ-loop
+pair-requires c κs = search needs
 
 add-out : tie.Need-add-out Inv-loop μ-loop
 add-out c = search needs
-
-array-read-out-2 : tie.Need-array-read-out-2 Inv-loop μ-loop
-array-read-out-2 c = search needs
-
-add-out-2 : tie.Need-add-out-2 Inv-loop μ-loop
-add-out-2 c = search needs
-
-add-out-3 : tie.Need-add-out-3 Inv-loop μ-loop
-add-out-3 c = search needs
 
 element-write-out : tie.Need-element-write-out Inv-loop μ-loop
 element-write-out c = search needs
@@ -51,7 +48,7 @@ loop-less : tie.Need-loop-less Inv-loop μ-loop
 loop-less c = search needs
 
 loop-again : tie.Need-loop-again Inv-loop μ-loop
-loop-again c = (search needs, rw (c .before .loop .inv .1) (laid-more _ _ _ (c .before .loop .j)))
+loop-again c = (search needs, rw (c .before .before .loop .inv .1, c .pair .ensures) (laid-more _ _ _ (c .before .before .loop .j)))
 
 returns : tie.Need-returns Inv-loop μ-loop
 returns c =
@@ -65,14 +62,13 @@ store-eight-spec =
     Inv-loop
     μ-loop
     loop-holds
-    mul-out
-    array-read-out
-    mul-out-2
-    mul-out-3
+    mul-pair
+    array-read-pair
+    mul-pair-2
+    add-pair
+    array-read-pair-2
+    pair-requires
     add-out
-    array-read-out-2
-    add-out-2
-    add-out-3
     element-write-out
     add-j
     loop-less
