@@ -46,14 +46,15 @@ fn allowed(deadline: u32, interval: u32) -> u32
     intervals - 1
 }
 
-// Fills `limits` with the limit of each flow at an interval.
-pub fn limit_flows(descents: &[u8], deadlines: &[u32], interval: u32, limits: &mut [u32])
-    requires { ⌜ (1 < interval) × Shallow (now descents) × (length (now deadlines) ≡ length (now descents)) × (length (now limits) ≡ length (now descents)) ⌝ }
-    ensures { λ r. ⌜ now (limits .exit) ≡ limitsOf (now (descents .entry)) (now (deadlines .entry)) interval ⌝ }
+// Turns deadlines into the limits of their flows at an interval, in place: `limits` holds the
+// deadlines at first.
+pub fn limit_flows(descents: &[u8], interval: u32, limits: &mut [u32])
+    requires { ⌜ (1 < interval) × Shallow (now descents) × (length (now limits) ≡ length (now descents)) ⌝ }
+    ensures { λ r. ⌜ now (limits .exit) ≡ limitsOf (now (descents .entry)) (now (limits .entry)) interval ⌝ }
 {
     let mut flow: usize = 0;
     while flow < limits.len() {
-        limits[flow] = allowed(deadlines[flow], interval) + BIAS - descents[flow] as u32;
+        limits[flow] = allowed(limits[flow], interval) + BIAS - descents[flow] as u32;
         flow += 1;
     }
 }

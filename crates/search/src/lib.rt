@@ -86,14 +86,8 @@ fn probe(order: Order, figures: Figures, counts: &mut [u8]) -> Settling
     let clusters = figures.cluster_count;
     let flows = figures.flow_count;
     let descents = figures.descents;
-    let deadlines = figures.deadlines;
-    let mut limits = [0; 128];
-    constraints::limit_flows(
-        &descents[..flows],
-        &deadlines[..flows],
-        order.interval(),
-        &mut limits[..flows],
-    );
+    let mut limits = figures.deadlines;
+    constraints::limit_flows(&descents[..flows], order.interval(), &mut limits[..flows]);
     let parents = figures.parents;
     let sources = figures.sources;
     let sinks = figures.sinks;

@@ -1,10 +1,11 @@
--- `constraints::limit_flows` meets its contract. The invariant: what is filled so far is the front of the flows' limits. A turn stores the limit of one flow more.
-use mathlib.Core.Path.{_≡_, sym, ap, _∙_}
+-- `constraints::limit_flows` meets its contract. The invariant: the limits so far are the front of the flows' limits, and behind them the deadlines still stand. A turn stores the limit of
+-- one flow more over its deadline.
+use mathlib.Core.Path.{_≡_, refl, sym, ap, _∙_}
 use Prim.Native.Nat.{ℕ, _+_, _-_, _/_, _^_, _≤_, _<_}
 use native.Mathlib.Nat.{div-lt-iff-lt-mul}
 use native.Mathlib.Omega.{arith}
 use lib.ListN.{length, take}
-use lib.Seq.{take-all}
+use lib.Seq.{take-all, getD-set-other}
 use mir.Syntax.{w32}
 use mir.Val.{Fits}
 use Rattle.model.specs.Counting.{at}
@@ -15,36 +16,43 @@ use Rattle.constraints.proofs.limit_flows.Statement.{statement}
 use Rattle.constraints.proofs.limit_flows.Tie as tie
 
 abbrev Inv-loop : tie.InvT-loop
-Inv-loop descents deadlines interval limits₀ flow₀ limits flow = (flow ≤ length limits₀) × (length limits ≡ length limits₀) × (take flow limits ≡ take flow (limitsOf descents deadlines interval))
+Inv-loop descents interval limits₀ flow₀ limits flow =
+    (flow ≤ length limits₀) × (length limits ≡ length limits₀) × (take flow limits ≡ take flow (limitsOf descents limits₀ interval)) × ((k : ℕ) → flow ≤ k → at limits k ≡ at limits₀ k)
 
 abbrev μ-loop : tie.MeasureT-loop
-μ-loop descents deadlines interval limits₀ flow₀ limits flow = length limits₀ - flow
+μ-loop descents interval limits₀ flow₀ limits flow = length limits₀ - flow
 
 -- a turn of the loop, after the allowed crossings are known
 abbrev Turn : Type 0
 Turn = tie.After-allowed Inv-loop μ-loop
 
+abbrev was : Turn → tie.At-loop Inv-loop μ-loop
+was turn = turn .before .before .before
+
+abbrev start : Turn → tie.Start Inv-loop μ-loop
+start turn = was turn .before .before .before
+
 abbrev flow : Turn → ℕ
-flow turn = turn .before .before .before .loop .flow
+flow turn = was turn .loop .flow
 
 -- a deadline of 32 bits allows few crossings at an interval above 1
 crossings-few : (d p r : ℕ) → 1 < p → Fits w32 d → r ≡ d / p - 1 → r < 2 ^ 31
 crossings-few d p r h f e = let q : d / p < 2 ^ 31 = div-lt-iff-lt-mul {k = p} {x = d} {y = 2 ^ 31} (omega arith) .1 (omega arith) in omega arith
 
 allowed-few : (turn : Turn) → turn .allowed .result < 2 ^ 31
-allowed-few turn = crossings-few _ _ _ (turn .before .before .before .before .before .before .before .pre .0) (turn .before .shared-slice-known3 .given _) (turn .allowed .ensures)
+allowed-few turn = crossings-few _ _ _ (start turn .pre .0) (turn .before .slice-known2 .given _) (turn .allowed .ensures)
 
-shallow : (turn : Turn) → at (turn .before .before .before .before .before .before .before .args .descents .now) (flow turn) ≤ 63
-shallow turn = turn .before .before .before .before .before .before .before .pre .1 (flow turn) (omega arith)
+shallow : (turn : Turn) → at (start turn .args .descents .now) (flow turn) ≤ 63
+shallow turn = start turn .pre .1 (flow turn) (omega arith)
 
 loop-holds : tie.Need-loop-holds Inv-loop μ-loop
-loop-holds c = search needs
+loop-holds c = (search needs, refl, refl, λ k l. refl)
 
 mul-allowed : tie.Need-mul-allowed Inv-loop μ-loop
 mul-allowed c = search needs
 
-shared-slice-read-allowed : tie.Need-shared-slice-read-allowed Inv-loop μ-loop
-shared-slice-read-allowed c = search needs
+slice-read-allowed : tie.Need-slice-read-allowed Inv-loop μ-loop
+slice-read-allowed c = search needs
 
 allowed-requires : tie.Need-allowed-requires Inv-loop μ-loop
 allowed-requires c κs = search needs
@@ -76,20 +84,21 @@ loop-less c = search needs
 loop-again : tie.Need-loop-again Inv-loop μ-loop
 loop-again c =
     let turn = c .before in
-    let a = turn .before .before .before .before .before .before .before .args in
-    let limit = turn .allowed .result + 64 - at (a .descents .now) (flow turn) in
-    let next = limits-next (a .descents .now) (a .deadlines .now) (a .interval) (flow turn) limit (turn .before .before .before .loop .limits) (omega arith) (omega arith) (omega arith) (ap (λ (n : ℕ). n + 64 - at (a .descents .now) (flow turn)) (turn .allowed .ensures)) (turn .before .before .before .loop .inv .2) in
-    (search needs, search needs, next)
+    let a = start turn .args in
+    let inv = was turn .loop .inv in
+    let allowed-here = turn .allowed .ensures ∙ ap (λ (deadline : ℕ). deadline / a .interval - 1) (inv .3 (flow turn) (omega arith)) in
+    let next = limits-next (a .descents .now) (a .limits .now) (a .interval) (flow turn) _ (was turn .loop .limits) (omega arith) (omega arith) (omega arith) (ap (λ (n : ℕ). n + 64 - at (a .descents .now) (flow turn)) allowed-here) (inv .2) in
+    (search needs, search needs, next, λ k l. getD-set-other (was turn .loop .limits) (flow turn) k _ 0 (λ e. omega arith) ∙ inv .3 k (omega arith))
 
 same-length : tie.Need-same-length Inv-loop μ-loop
 same-length c = search needs
 
 returns : tie.Need-returns Inv-loop μ-loop
 returns c =
-    let a = c .before .before .before .before .before .args in
-    let limits = limitsOf (a .descents .now) (a .deadlines .now) (a .interval) in
+    let a = c .before .before .before .before .args in
+    let limits = limitsOf (a .descents .now) (a .limits .now) (a .interval) in
     let flow = c .before .loop .flow in
-    sym (take-all flow (c .before .loop .limits) (omega arith)) ∙ c .before .loop .inv .2 ∙ take-all flow limits (omega (arith, limits-length (a .descents .now) (a .deadlines .now) (a .interval) (omega arith)))
+    sym (take-all flow (c .before .loop .limits) (omega arith)) ∙ c .before .loop .inv .2 ∙ take-all flow limits (omega (arith, limits-length (a .descents .now) (a .limits .now) (a .interval) (omega arith)))
 
 pub limit-flows-spec : {M : Type 1} → statement M
 limit-flows-spec =
@@ -99,7 +108,7 @@ limit-flows-spec =
     μ-loop
     loop-holds
     mul-allowed
-    shared-slice-read-allowed
+    slice-read-allowed
     allowed-requires
     add-limits
     shared-slice-read-limits

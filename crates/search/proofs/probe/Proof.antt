@@ -4,7 +4,7 @@ use mathlib.Core.Path.{_≡_, sym, ap, _∙_}
 use mathlib.Core.List.{List, _++_}
 use Prim.Native.Nat.{ℕ, _≤_}
 use native.Mathlib.Omega.{arith}
-use lib.ListN.{length, take, drop, replicate}
+use lib.ListN.{length, take, drop}
 use lib.Seq.{length-take-le, length-front, take-at}
 use Rattle.model.specs.Orders.{interval}
 use Rattle.model.specs.OrderLaws.{order-has-length}
@@ -21,11 +21,8 @@ use borrow.Author.Needs.{needs}
 use Rattle.search.proofs.probe.Statement.{statement}
 use Rattle.search.proofs.probe.Tie as tie
 
-abbrev zeros : List ℕ
-zeros = replicate 128 0
-
 -- before anything is lent
-module _ (c : tie.After-deadlines) where
+module _ (c : tie.After-limits) where
   abbrev start : tie.Start
   start = c .before .before .before
 
@@ -43,24 +40,24 @@ module _ (c : tie.After-deadlines) where
 
 -- once the limits are there: they are the array's front
 module _ (c : tie.After-limit-flows) where
-  abbrev lent : tie.After-deadlines
-  lent = c .before .before .before .before .before
+  abbrev lent : tie.After-limits
+  lent = c .before .before .before .before
 
   abbrev limits : List ℕ
-  limits = c .limit-flows .last .1 .1 .1 .0 ++ drop (flows lent) zeros
+  limits = c .limit-flows .last .1 .1 .0 ++ drop (flows lent) (figures lent .deadlines)
 
   length-is : c .before .before .interval .result ≡ interval (start lent .args .order .number)
   length-is = c .before .before .interval .ensures ∙ order-has-length interval _ (start lent .pre .0)
 
   limits-fit : flows lent ≤ length limits
-  limits-fit = omega (arith, flows-fit _ _ (posed lent), length-front zeros (c .limit-flows .last .1 .1 .1 .0) (flows lent) (c .limit-flows .kept .1 .1 .1 .0))
+  limits-fit = omega (arith, deadlines-reach _ _ (posed lent) .fits, length-front (figures lent .deadlines) (c .limit-flows .last .1 .1 .0) (flows lent) (c .limit-flows .kept .1 .1 .0))
 
   limits-number : length (take (flows lent) limits) ≡ flows lent
   limits-number = length-take-le (flows lent) limits limits-fit
 
   limits-are : take (flows lent) limits ≡ limitsOf (take (flows lent) (figures lent .descents)) (take (flows lent) (figures lent .deadlines)) (c .before .before .interval .result)
   limits-are =
-      take-at _ (drop (flows lent) zeros) (flows lent) (c .limit-flows .kept .1 .1 .1 .0 ∙ length-take-le (flows lent) zeros (flows-fit _ _ (posed lent)))
+      take-at _ (drop (flows lent) (figures lent .deadlines)) (flows lent) (c .limit-flows .kept .1 .1 .0 ∙ deadlines-reach _ _ (posed lent) .number)
       ∙ c .limit-flows .ensures
 
 -- once the trial is the depths
@@ -68,7 +65,7 @@ module _ (c : tie.After-trial) where
   abbrev made : tie.After-limit-flows
   made = c .before .before .before .before .before
 
-  abbrev first : tie.After-deadlines
+  abbrev first : tie.After-limits
   first = lent made
 
 -- once it is settled: it is the array's front
@@ -76,7 +73,7 @@ module _ (c : tie.After-settle) where
   abbrev ready : tie.After-trial
   ready = c .before .before .before .before .before .before
 
-  abbrev begun : tie.After-deadlines
+  abbrev begun : tie.After-limits
   begun = first ready
 
   abbrev trial : List ℕ
@@ -103,30 +100,22 @@ array-share-prefix-descents c = descents-reach _ _ (posed c) .fits
 slice-aggregate-limit-flows : tie.Need-slice-aggregate-limit-flows
 slice-aggregate-limit-flows c = sym (descents-reach _ _ (posed (c .before)) .number)
 
-array-share-prefix-deadlines : tie.Need-array-share-prefix-deadlines
-array-share-prefix-deadlines c = deadlines-reach _ _ (posed (c .before)) .fits
-
-slice-aggregate-limit-flows-2 : tie.Need-slice-aggregate-limit-flows-2
-slice-aggregate-limit-flows-2 c = sym (deadlines-reach _ _ (posed (c .before .before)) .number)
-
 interval-requires : tie.Need-interval-requires
 interval-requires c κs = search needs
 
 array-borrow-prefix-limits : tie.Need-array-borrow-prefix-limits
-array-borrow-prefix-limits c = flows-fit _ _ (posed (c .before .before .before))
+array-borrow-prefix-limits c = deadlines-reach _ _ (posed (c .before .before)) .fits
 
-slice-aggregate-limit-flows-3 : tie.Need-slice-aggregate-limit-flows-3
-slice-aggregate-limit-flows-3 c = sym (length-take-le _ zeros (flows-fit _ _ (posed (c .before .before .before .before))))
+slice-aggregate-limit-flows-2 : tie.Need-slice-aggregate-limit-flows-2
+slice-aggregate-limit-flows-2 c = sym (deadlines-reach _ _ (posed (c .before .before .before)) .number)
 
 limit-flows-requires : tie.Need-limit-flows-requires
 limit-flows-requires c κs =
-    let lent = c .before .before .before .before in
-    let descents = descents-reach _ _ (posed lent) .number in
+    let lent = c .before .before .before in
     let length-is : c .before .interval .result ≡ interval (start lent .args .order .number) = c .before .interval .ensures ∙ order-has-length interval _ (start lent .pre .0) in (
       omega (arith, length-is, interval-positive (start lent .args .order .number)),
       descents-shallow _ _ (posed lent),
-      deadlines-reach _ _ (posed lent) .number ∙ sym descents,
-      length-take-le _ zeros (flows-fit _ _ (posed lent)) ∙ sym descents,
+      deadlines-reach _ _ (posed lent) .number ∙ sym (descents-reach _ _ (posed lent) .number),
     )
 
 array-share-prefix-parents : tie.Need-array-share-prefix-parents
@@ -219,11 +208,9 @@ probe-spec =
     (tie.spec
     array-share-prefix-descents
     slice-aggregate-limit-flows
-    array-share-prefix-deadlines
-    slice-aggregate-limit-flows-2
     interval-requires
     array-borrow-prefix-limits
-    slice-aggregate-limit-flows-3
+    slice-aggregate-limit-flows-2
     limit-flows-requires
     array-share-prefix-parents
     slice-aggregate-settle
