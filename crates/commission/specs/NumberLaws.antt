@@ -22,10 +22,8 @@ use Rattle.writer.specs.Text.{writtenSays, fitting, written, roomAfter as writt
 use Rattle.planner.specs.declared.Planned.{Planned}
 use Rattle.planner.specs.declared.Planned.the-variants.{Plan, Refused as RefusedPlan}
 use Rattle.planner.specs.Answers.{plannedSays, outcomeAnswer, outcomeRoom, answer, roomAfter}
-use Rattle.planner.specs.SequenceLaws.{planned-fresh}
-use Rattle.planner.specs.SiteLaws.{counts-bounded, clusters-counted}
-use Rattle.plantext.specs.PlanText.{siteOf, planText, Placed}
-use Rattle.plantext.specs.PlanTextLaws.{text-bounded}
+use Rattle.planner.specs.PlanSize.{plan-text-size, plan-size-at-most}
+use Rattle.plantext.specs.PlanText.{siteOf, planText}
 use Rattle.model.specs.Plans.{Outcome, planned, noFit, noPlacing, plan}
 use Rattle.roundtrip.specs.WriteOfRead.{write-of-read}
 use Rattle.roundtrip.specs.LongestSite.{longest-site}
@@ -46,10 +44,8 @@ module _ (s : Site) (checks : checked s ≡ Accepted) (n : ℕ) where
   outcome-small noFit e = omega arith
   outcome-small noPlacing e = omega arith
   outcome-small (planned order sequence) e =
-      let fresh = planned-fresh (siteOf s) order sequence e in
-      let count = clusters-counted s checks in
-      let placed : Placed s sequence = record { accepted = checks; fresh = rw count at (fresh .0); short = omega (arith, counts-bounded s checks) } in
-      elim (decide (leb (length (planText s order sequence)) n)) [ inl f ↦ rw f (text-bounded s order sequence placed) | inr f ↦ rw f (omega arith) ]
+      let small : length (planText s order sequence) ≤ 9673 = omega (arith, plan-text-size s checks order sequence e, plan-size-at-most s checks) in
+      elim (decide (leb (length (planText s order sequence)) n)) [ inl f ↦ rw f small | inr f ↦ rw f (omega arith) ]
 
 module _ (t : List ℕ) (reading : Reading) (read : reading ≡ readText t) where
   verdict-is : (v : Verdict) → reading .verdict ≡ v → readText t .verdict ≡ v

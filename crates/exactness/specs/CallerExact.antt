@@ -24,10 +24,10 @@ use Rattle.plantext.specs.PlanText.{siteOf}
 use Rattle.planner.specs.declared.Planned.{Planned}
 use Rattle.planner.specs.declared.Planned.the-variants.{Plan, Refused as RefusedPlan}
 use Rattle.planner.specs.Answers.{plannedSays, answer, roomAfter}
+use Rattle.planner.specs.PlanSize.{planSize, plan-size-at-most}
 use Rattle.commission.specs.Numbers.{numberOf, planNumber, planRoom}
 use Rattle.commission.specs.SmallRefusals.{Small, text-refusal-small}
 use Rattle.roundtrip.specs.WriteOfRead.{write-of-read}
-use Rattle.exactness.specs.PlanSize.{planSize, plan-size-at-most}
 use Rattle.exactness.specs.PlannerExact.{PlanIn, Taken, ExactAnswer, accepted-or-refused, placeable-not-late, late-not-misfit, placeable-not-misfit, planner-is-exact}
 
 -- ---- the statement

@@ -34,7 +34,7 @@ use Rattle.reader.specs.Reading.{readText}
 use Rattle.records.specs.Check.{checked}
 use Rattle.shown.specs.Shown.{lineStart, lineAt, Shown}
 use Rattle.writer.specs.Text.{textOf, written, roomAfter as writtenRoom}
-use Rattle.plantext.specs.PlanText.{planText, siteOf}
+use Rattle.plantext.specs.PlanText.{siteOf, planHeader, clusterLine}
 use Rattle.planner.specs.Answers.{answer, roomAfter, outcomeAnswer, outcomeRoom}
 use Rattle.commission.specs.Numbers.{planNumber, planRoom, rewriteNumber, rewriteRoom}
 use Rattle.roundtrip.specs.EqualResults.{equal-results, equal-results-in-room}
@@ -85,8 +85,8 @@ pub record EqualResults : Type 0 where
   pub search : (figures : Figures) (before counts₁ counts₂ : List ℕ) (r₁ r₂ : Found) → ((s : model.Site) × Posed s figures)
       → ((s : model.Site) → Posed s figures → Searched s r₁ before counts₁) → ((s : model.Site) → Posed s figures → Searched s r₂ before counts₂) → (r₁ ≡ r₂) × (counts₁ ≡ counts₂)
   -- the writer and the planner, with the room that they were lent
-  pub plan-text-length : (s : Site) (placed : List ℕ) (r₁ r₂ : ℕ) → ((order : ℕ) → r₁ ≡ length (planText s order placed)) → ((order : ℕ) → r₂ ≡ length (planText s order placed)) → r₁ ≡ r₂
-  pub plan-text-put : (room : List ℕ) (s : Site) (order : ℕ) (placed : List ℕ) → OneResultInRoom (length (planText s order placed)) (put room 0 (planText s order placed))
+  pub «put_header» : (room : List ℕ) (order clusters : ℕ) → OneResultInRoom (length (lineOf (planHeader order clusters))) (put room 0 (lineOf (planHeader order clusters)))
+  pub «put_cluster» : (room : List ℕ) (at cluster start len : ℕ) (tag : Tag) → OneResultInRoom (at + length (lineOf (clusterLine cluster start len tag))) (put room at (lineOf (clusterLine cluster start len tag)))
   pub write : (s : Site) (room : List ℕ) → OneResultInRoom (written (checked s) (textOf s) (length room)) (writtenRoom (checked s) (textOf s) room)
   pub «plan_accepted» : (s : Site) (room : List ℕ) → OneResultInRoom (outcomeAnswer s (planOf (siteOf s)) (length room)) (outcomeRoom s (planOf (siteOf s)) room)
   pub plan : (s : Site) (room : List ℕ) → OneResultInRoom (answer s (length room)) (roomAfter s room)
@@ -132,8 +132,8 @@ results-are-equal = record {
   sequence = λ size parent N room room₁ room₂ r₁ r₂ p q. let placed = inOrder size parent N in
       equal-results-in-room (length placed) (placed ++ drop (length placed) room) r₁ r₂ room₁ room₂ (p .number, sequenced-room size parent N room room₁ r₁ p) (q .number, sequenced-room size parent N room room₂ r₂ q);
   search = λ figures before counts₁ counts₂ r₁ r₂ w p q. searched-once (w .0) (p (w .0) (w .1)) (q (w .0) (w .1));
-  plan-text-length = λ s placed r₁ r₂ p q. equal-results (length (planText s 0 placed)) r₁ r₂ (p 0) (q 0);
-  plan-text-put = λ room s order placed. equal-results-in-room (length (planText s order placed)) (put room 0 (planText s order placed));
+  «put_header» = λ room order clusters. equal-results-in-room (length (lineOf (planHeader order clusters))) (put room 0 (lineOf (planHeader order clusters)));
+  «put_cluster» = λ room at cluster start len tag. equal-results-in-room (at + length (lineOf (clusterLine cluster start len tag))) (put room at (lineOf (clusterLine cluster start len tag)));
   write = λ s room. equal-results-in-room (written (checked s) (textOf s) (length room)) (writtenRoom (checked s) (textOf s) room);
   «plan_accepted» = λ s room. equal-results-in-room (outcomeAnswer s (planOf (siteOf s)) (length room)) (outcomeRoom s (planOf (siteOf s)) room);
   plan = λ s room. equal-results-in-room (answer s (length room)) (roomAfter s room);

@@ -4,7 +4,6 @@ pub mod PlanRead
 pub mod SameStarts
 pub mod EachOnce
 pub mod PlanReadLaws
-pub mod PlanSize
 -- the theorems: the planner and the C caller's number are exact, no impostor meets the contract, and a contract allows one result
 pub mod PlannerExact
 pub mod CallerExact

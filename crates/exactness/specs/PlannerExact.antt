@@ -30,10 +30,10 @@ use Rattle.plantext.specs.PlanText.{siteOf, planText}
 use Rattle.planner.specs.declared.Planned.{Planned}
 use Rattle.planner.specs.declared.Planned.the-variants.{Plan, Refused as RefusedPlan}
 use Rattle.planner.specs.Answers.{answer, roomAfter}
+use Rattle.planner.specs.PlanSize.{planSize, plan-text-size}
 use Rattle.planner.specs.SiteLaws.{clusters-counted, describes-sound}
 use Rattle.exactness.specs.PlanRead.{orderIn, linesFor, startsIn}
 use Rattle.exactness.specs.PlanReadLaws.{order-in-plan-text, starts-in-plan-text, one-line-each, no-other-line}
-use Rattle.exactness.specs.PlanSize.{planSize, plan-text-size}
 use Rattle.exactness.specs.SameStarts.{same-starts-place}
 
 -- ---- the statement
@@ -104,7 +104,7 @@ module _ (s : Site) (accepted : Taken s) where
     plan-in-room : (order : ℕ) (sequence : List ℕ) → plan (siteOf s) ≡ planned order sequence
         → let text : List ℕ = planText s order sequence in PlanIn s room (length text) order (text ++ drop (length text) room)
     plan-in-room order sequence e = let text : List ℕ = planText s order sequence in record {
-      size = plan-text-size s accepted order sequence (exact .planned-is order sequence e);
+      size = plan-text-size s accepted order sequence e;
       places = rw (take-append-seam text (drop (length text) room)) (plan-text-places order sequence e);
       sequence = sequence;
       published = plan-is-published (siteOf s) (describes-sound s accepted) order sequence .0 e;
@@ -117,7 +117,7 @@ module _ (s : Site) (accepted : Taken s) where
     answered-by-outcome noPlacing e = late accepted (exact .noPlacing-iff .0 e) (rw (accepted, e)) (rw (accepted, e))
     answered-by-outcome (planned order sequence) e =
         let text : List ℕ = planText s order sequence in
-        let size = plan-text-size s accepted order sequence (exact .planned-is order sequence e) in
+        let size = plan-text-size s accepted order sequence e in
         let placeable = exact .planned-iff .0 (order, sequence, e) in
         elim (decide (leb (length text) (length room))) [
           | inl f ↦

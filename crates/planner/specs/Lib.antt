@@ -7,3 +7,4 @@ pub mod Numbers
 pub mod NumberLaws
 pub mod SiteLaws
 pub mod SequenceLaws
+pub mod PlanSize

@@ -1,24 +1,23 @@
--- What the loops over the records want: a filled array is a field of the records, one portion and one period more, and the depths of a path's top and its sink.
+-- What the loop over the flows wants: a filled array is a number of each record, one period more, and the depths of a path's top and its sink.
 use mathlib.Core.Path.{_≡_, sym, ap, _∙_}
 use mathlib.Core.List.{List, map}
 use mathlib.Core.Logic.{inl, inr}
 use Prim.Native.Nat.{ℕ, zero, suc, _+_, _-_, _≤_, _<_, min}
-use native.Mathlib.Numerals.{add-one}
 use native.Mathlib.Omega.{arith}
 use lib.Dec.{ltb, eqb}
 use lib.ListN.{length, getD, take, drop, length-map, List·getD-map, drop-of-length-le}
 use lib.Seq.{ext-getD, getD-take, length-take-le}
 use borrow.Author.Tests.{ltb-true, ltb-false, eqb-true, eqb-false}
 use Rattle.hexline.specs.Loops.{filled, filled-length, filled-at}
-use Rattle.model.specs.Counting.{at, sumBelow}
-use Rattle.model.specs.CountingLaws.{passes-or-fails, values-length, values-at}
+use Rattle.model.specs.Counting.{at, values}
+use Rattle.model.specs.CountingLaws.{passes-or-fails, values-at}
 use Rattle.model.specs.Orders.{shortest}
 use Rattle.model.specs.PlanLaws.{shortest-next}
 use Rattle.model.specs.Trees.{Tree, depth, top}
 use Rattle.model.specs.TreeLaws.{depth-step, top-same, top-first-up, top-second-up}
 use Rattle.site.specs.declared.Flow.{Flow}
 use Rattle.site.specs.Records.{noFlow}
-use Rattle.planner.specs.Numbers.{periodsOf, descentAt, FlowsInTree}
+use Rattle.planner.specs.Numbers.{periodsOf, descentIn}
 
 -- the part of a filled array that counts, where it was filled with h of each element
 pub filled-is-map : {A : Type 0} (g : ℕ → ℕ) (h : A → ℕ) (l : List ℕ) (xs : List A) (d : A) (n : ℕ) → n ≤ length l → length xs ≡ n
@@ -28,10 +27,6 @@ filled-is-map g h l xs d n room e same =
     ext-getD (h d) (take n (filled g l n)) (map h xs) (first ∙ sym e ∙ sym (length-map xs h)) (λ i p.
     let below : i < n = omega arith in
     getD-take n (filled g l n) i (h d) below ∙ filled-at g l n (h d) room i below ∙ same i below ∙ sym (List·getD-map h xs i d))
-
-pub sum-next : (f : ℕ → ℕ) (i : ℕ) → sumBelow (i + 1) f ≡ f i + sumBelow i f
-unfolding sumBelow
-sum-next f i = rw (add-one, sumBelow)
 
 -- the least of p and the periods of the flows from i on
 module _ (flows : List Flow) (n i p : ℕ) where
@@ -68,31 +63,18 @@ module _ (parent : ℕ → ℕ) (n : ℕ) (tree : Tree parent n) where
   pub top-above : (a b : ℕ) → a < n → b < n → Above (top parent a b) b
   top-above a b la lb = above-within (a + b) a b (omega arith) la lb
 
--- flow i of a tree's flows, between the clusters a and b
-module _ (parents depths sources sinks : List ℕ) (w : FlowsInTree parents depths sources sinks) where
-  abbrev n : ℕ
-  n = length parents
+-- a tree's depths at the front of an array, and a flow between the clusters a and b, with the top z of its path
+module _ (ps levels : List ℕ) (tree : Tree (at ps) (length ps)) (deep : take (length ps) levels ≡ values (depth (at ps)) 0 (length ps)) where
+  depth-here : (c : ℕ) → c < length ps → at levels c ≡ depth (at ps) c
+  depth-here c l = sym (getD-take (length ps) levels c 0 l) ∙ ap (λ (ds : List ℕ). at ds c) deep ∙ values-at (depth (at ps)) 0 (length ps) c l ∙ ap (depth (at ps)) (omega arith)
 
-  pub depths-reach : length depths ≡ n
-  depths-reach = ap length (w .deep) ∙ values-length (depth (at parents)) 0 n
+  module _ (f : Flow) (a b z : ℕ) (p : a ≡ f .source) (q : b ≡ f .sink) (la : a < length ps) (lb : b < length ps) (r : z ≡ top (at ps) a b) where
+    pub top-here : (z < length ps) × (at levels z ≤ at levels b)
+    top-here =
+        let above = top-above (at ps) (length ps) tree a b la lb in
+        let there : z < length ps = rw r (above .0) in
+        (there, omega (arith, depth-here z there, depth-here b lb, rw (sym r) at (above .1)))
 
-  depth-here : (c : ℕ) → c < n → at depths c ≡ depth (at parents) c
-  depth-here c l = ap (λ (ds : List ℕ). at ds c) (w .deep) ∙ values-at (depth (at parents)) 0 n c l ∙ ap (depth (at parents)) (omega arith)
-
-  module _ (i a b : ℕ) (l : i < length sources) (p : a ≡ at sources i) (q : b ≡ at sinks i) where
-    pub ends-here : (a < n) × (b < n)
-    ends-here = let e = w .ends i l in (omega (arith, e .0), omega (arith, e .1))
-
-    module _ (z : ℕ) (r : z ≡ top (at parents) a b) where
-      pub top-here : (z < n) × (at depths z ≤ at depths b)
-      top-here =
-          let above = top-above (at parents) n (w .tree) a b (ends-here .0) (ends-here .1) in
-          let there : z < n = rw r (above .0) in
-          (there, omega (arith, depth-here z there, depth-here b (ends-here .1), rw (sym r) at (above .1)))
-
-      pub descent-here : at depths b - at depths z ≡ descentAt parents sources sinks i
-      unfolding descentAt
-      descent-here =
-          let sink : at depths b ≡ depth (at parents) (at sinks i) = depth-here b (ends-here .1) ∙ rw q in
-          let above : at depths z ≡ depth (at parents) (top (at parents) (at sources i) (at sinks i)) = depth-here z (top-here .0) ∙ rw (r, p, q) in
-          rw (sink, above)
+    pub descent-here : at levels b - at levels z ≡ descentIn ps f
+    unfolding descentIn
+    descent-here = rw (depth-here b lb, depth-here z (top-here .0), r, p, q)

@@ -7,14 +7,12 @@ use native.Mathlib.Omega.{arith}
 use lib.ListN.{length, getD, take, replicate, length-map, List·getD-map}
 use lib.Seq.{getD-take, length-take-le}
 use borrow.Author.Tests.{leb-true, leb-false, le-leb, ne-eqb}
-use Rattle.hexline.specs.Loops.{filled}
 use Rattle.model.specs.Constraints.{descent}
-use Rattle.model.specs.Counting.{Each, at, sumBelow, values}
+use Rattle.model.specs.Counting.{Each, at, sumBelow}
 use Rattle.model.specs.CountingLaws.{passes-or-fails, each-map, sum-same}
 use Rattle.model.specs.Orders.{largest, interval, isOrder, withinAll, permitted, portion, shortest}
 use Rattle.model.specs.OrderLaws.{symbols-bounded, shortest-decides}
 use Rattle.model.specs.Sites as model
-use Rattle.model.specs.Trees.{depth}
 use Rattle.plantext.specs.PlanText.{modelFlow, siteOf}
 use Rattle.plantext.specs.PlanTextLaws.{field-at, order-at}
 use Rattle.site.specs.declared.Cluster.{Cluster}
@@ -22,9 +20,9 @@ use Rattle.site.specs.declared.Flow.{Flow}
 use Rattle.site.specs.declared.Site.{Site}
 use Rattle.site.specs.declared.Verdict.the-variants.{Accepted}
 use Rattle.records.specs.Check.{checked}
-use Rattle.records.specs.Checked.{checked-unrefused, counts-in, cluster-tests, site-cluster-in, site-flow-in, clusters-reach, flows-reach}
+use Rattle.records.specs.Checked.{checked-unrefused, counts-in, cluster-tests, site-flow-in, clusters-reach, flows-reach}
 use Rattle.site.specs.Records.{absent, noFlow, wrongParent}
-use Rattle.planner.specs.Numbers.{parentsOf, flowsOf, periodsOf, descentAt, descentsOf, FlowsInTree}
+use Rattle.planner.specs.Numbers.{parentsOf, portionsOf, flowNumbers, periodsOf, descentIn}
 use Rattle.planner.specs.NumberLaws.{filled-is-map}
 
 -- ## Lists
@@ -70,9 +68,6 @@ module _ (s : Site) (accepted : checked s ≡ Accepted) where
   pub counts-bounded : (1 ≤ n) × (n ≤ 64) × (f ≤ 128)
   counts-bounded = let c = counts-in s (checked-unrefused s accepted) in (c .some, c .clusters, c .flows)
 
-  pub orders-bounded : (c : ℕ) → c < n → getD (s .clusters) c absent .order ≤ largest
-  orders-bounded c l = site-cluster-in s (checked-unrefused s accepted) c l .order
-
   pub clusters-counted : model.size m ≡ n
   unfolding siteOf
   clusters-counted = length-map (take n (s .clusters)) (λ (c : Cluster). c .parent) ∙ length-take-le n (s .clusters) clusters-whole
@@ -89,12 +84,6 @@ module _ (s : Site) (accepted : checked s ≡ Accepted) where
   unfolding siteOf
   flow-at i l = List·getD-map modelFlow (take f (s .flows)) i noFlow ∙ ap modelFlow (getD-take f (s .flows) i noFlow l)
 
-  source-at : (i : ℕ) → i < f → at (map (λ g. g .source) (m .flows)) i ≡ getD (m .flows) i (modelFlow noFlow) .source
-  source-at i l = List·getD-map (λ g. g .source) (m .flows) i (modelFlow noFlow)
-
-  sink-at : (i : ℕ) → i < f → at (map (λ g. g .sink) (m .flows)) i ≡ getD (m .flows) i (modelFlow noFlow) .sink
-  sink-at i l = List·getD-map (λ g. g .sink) (m .flows) i (modelFlow noFlow)
-
   periods-are : periodsOf (s .flows) f ≡ model.periods m
   unfolding siteOf periodsOf
   periods-are = map-of-map (take f (s .flows))
@@ -105,7 +94,7 @@ module _ (s : Site) (accepted : checked s ≡ Accepted) where
       let right = cluster-tests s (checked-unrefused s accepted) c l .1 in
       leb-false c _ (rw (ne-eqb c 0 (λ e. omega arith)) at right)
 
-  ends-there : (i : ℕ) → i < f → let g = getD (s .flows) i noFlow in (g .source < n) × (g .sink < n)
+  pub ends-there : (i : ℕ) → i < f → let g = getD (s .flows) i noFlow in (g .source < n) × (g .sink < n)
   ends-there i l = let g = site-flow-in s (checked-unrefused s accepted) i l in (g .source, g .sink)
 
   pub describes-sound : model.Sound m
@@ -119,48 +108,25 @@ module _ (s : Site) (accepted : checked s ≡ Accepted) where
   -- ## Its numbers
 
   module _ (k : ℕ) (e : k ≡ n) where
-    pub parents-are : (ps : List ℕ) → ps ≡ parentsOf (s .clusters) k → take k ps ≡ m .parents
+    pub parents-are : (ps : List ℕ) → ps ≡ parentsOf (s .clusters) n → take k ps ≡ m .parents
     unfolding siteOf
     parents-are ps q = rw (q, e) (filled-is-map _ (λ (c : Cluster). c .parent) (replicate 64 0) (take n (s .clusters)) absent n
         (omega (arith, counts-bounded .1))
         (length-take-le n (s .clusters) clusters-whole)
         (λ i l. ap (λ (c : Cluster). c .parent) (sym (getD-take n (s .clusters) i absent l))))
 
-    pub total-is : (total : ℕ) → total ≡ sumBelow k (λ c. portion (getD (s .clusters) c absent .order)) → total ≡ sumBelow (model.size m) (model.portionOf m)
-    total-is total q = q ∙ rw (e, clusters-counted) (sum-same n _ (model.portionOf m) (λ c l. ap portion (sym (order-at s c l))))
+  pub total-is : (total : ℕ) → total ≡ portionsOf (s .clusters) n → total ≡ sumBelow (model.size m) (model.portionOf m)
+  total-is total q = q ∙ rw clusters-counted (sum-same n _ (model.portionOf m) (λ c l. ap portion (sym (order-at s c l))))
 
   module _ (j : ℕ) (e : j ≡ f) where
-    field-is : (h : model.Flow → ℕ) (g : ℕ → ℕ) (xs : List ℕ) → xs ≡ filled g (replicate 128 0) j → ((i : ℕ) → i < f → g i ≡ h (modelFlow (getD (s .flows) i noFlow))) → take j xs ≡ map h (m .flows)
-    field-is h g xs q same = rw (q, e) (filled-is-map g h (replicate 128 0) (m .flows) (modelFlow noFlow) f (omega (arith, counts-bounded .2)) flows-counted (λ i l. same i l ∙ ap h (sym (flow-at i l))))
+    pub numbers-are : (h : model.Flow → ℕ) (xs : List ℕ) → xs ≡ flowNumbers (λ g. h (modelFlow g)) (s .flows) j → take j xs ≡ map h (m .flows)
+    numbers-are h xs q = rw (q, e) (filled-is-map _ h (replicate 128 0) (m .flows) (modelFlow noFlow) f (omega (arith, counts-bounded .2)) flows-counted (λ i l. ap h (sym (flow-at i l))))
 
-    pub sources-are : (xs : List ℕ) → xs ≡ flowsOf (s .flows) j .sources → take j xs ≡ map (λ g. g .source) (m .flows)
-    sources-are xs q = field-is (λ g. g .source) _ xs q (λ i l. refl)
-
-    pub sinks-are : (xs : List ℕ) → xs ≡ flowsOf (s .flows) j .sinks → take j xs ≡ map (λ g. g .sink) (m .flows)
-    sinks-are xs q = field-is (λ g. g .sink) _ xs q (λ i l. refl)
-
-    pub deadlines-are : (xs : List ℕ) → xs ≡ flowsOf (s .flows) j .deadlines → take j xs ≡ map (λ g. g .deadline) (m .flows)
-    deadlines-are xs q = field-is (λ g. g .deadline) _ xs q (λ i l. refl)
-
-    pub descents-are : (ps ss ts xs : List ℕ) → ps ≡ m .parents → ss ≡ map (λ g. g .source) (m .flows) → ts ≡ map (λ g. g .sink) (m .flows)
-        → xs ≡ descentsOf ps ss ts → take j xs ≡ map (descent m) (m .flows)
-    unfolding descentAt descent
-    descents-are ps ss ts xs p a b q =
-        let number : length ss ≡ j = ap length a ∙ length-map (m .flows) (λ g. g .source) ∙ flows-counted ∙ sym e in
-        field-is (descent m) (descentAt ps ss ts) xs (q ∙ ap (filled (descentAt ps ss ts) (replicate 128 0)) number) (λ i l. rw (p, a, b, source-at i l, sink-at i l, flow-at i l))
+    pub descents-are : (ps xs : List ℕ) → ps ≡ m .parents → xs ≡ flowNumbers (descentIn ps) (s .flows) j → take j xs ≡ map (descent m) (m .flows)
+    unfolding descentIn descent
+    descents-are ps xs p q = numbers-are (descent m) xs (rw p at q)
 
     pub permits-alike : (least : ℕ) → least ≡ shortest 1000000000 (periodsOf (s .flows) j) → (o : ℕ) → permitted o (least ∷ []) ≡ permitted o (model.periods m)
     permits-alike least q o =
         let all : periodsOf (s .flows) j ≡ model.periods m = rw e periods-are in
         ap (λ (p : ℕ). permitted o (p ∷ [])) q ∙ sym (shortest-decides o 1000000000 (periodsOf (s .flows) j)) ∙ long-period o 1000000000 (periodsOf (s .flows) j) (omega arith) ∙ ap (permitted o) all
-
-  module _ (ps ls ss ts : List ℕ) (p : ps ≡ m .parents) (d : ls ≡ values (depth (at ps)) 0 (length ps)) (a : ss ≡ map (λ g. g .source) (m .flows)) (b : ts ≡ map (λ g. g .sink) (m .flows)) where
-    pub flows-in-tree : FlowsInTree ps ls ss ts
-    flows-in-tree = record {
-      few = rw p (omega (arith, clusters-counted, counts-bounded .1));
-      tree = rw p (describes-sound .tree);
-      deep = d;
-      not-many = rw a (omega (arith, length-map (m .flows) (λ g. g .source), flows-counted, counts-bounded .2));
-      paired = rw (a, b) (length-map (m .flows) (λ g. g .sink) ∙ sym (length-map (m .flows) (λ g. g .source)));
-      ends = λ i l. let here : i < f = omega (arith, ap length a, length-map (m .flows) (λ g. g .source), flows-counted) in rw (p, a, b, source-at i here, sink-at i here, flow-at i here, clusters-counted) (ends-there i here);
-    }

@@ -1,20 +1,23 @@
 // The planner: from a site's records to the plan text in a lent room, or a refusal.
 mod numbers;
 
+use model::Order;
 use model::wide;
 use numbers::figures_of;
+use search::Figures;
 use search::Found;
 use site::Site;
 use site::Verdict;
 ghost use mathlib.Core.Path.{_≡_};
-ghost use Prim.Native.Nat.{_≤_};
 ghost use lib.ListN.{length};
 ghost use Rattle.model.specs.Plans.{plan as planOf};
+ghost use Rattle.model.specs.Sites.{Site as Described};
 ghost use Rattle.plantext.specs.PlanText.{siteOf};
 ghost use Rattle.site.specs.declared.Verdict.the-variants.{Accepted};
 ghost use Rattle.records.specs.Check.{checked};
+ghost use Rattle.search.specs.Posed.{Posed};
 ghost use Rattle.planner.specs.Answers.{outcomeAnswer, outcomeRoom, answer, roomAfter};
-ghost use Rattle.planner.specs.Schedules.{scheduledAs, scheduledCount};
+ghost use Rattle.planner.specs.Schedules.{Scheduled};
 
 // What the planner answers: how many bytes of the room the plan text fills and the beacon order, or
 // the refusal.
@@ -31,13 +34,12 @@ enum Schedule {
     NoPlacing,
 }
 
-// The order of the plan of accepted records; the first entries of `placed` are then the clusters in
-// order of start.
-fn place_clusters(site: Site, placed: &mut [u8]) -> Schedule
-    requires { ⌜ (checked site ≡ Accepted) × (length (now placed) ≡ site .«cluster_count») ⌝ }
-    ensures { λ r. ⌜ (planOf (siteOf site) ≡ scheduledAs r (now (placed .exit))) × (scheduledCount r ≤ length (now (placed .exit))) ⌝ }
+// The order of the plan of the site that the figures describe; the first entries of `placed` are
+// then the clusters in order of start.
+fn place_clusters(figures: Figures, placed: &mut [u8]) -> Schedule
+    requires { ⌜ (length (now placed) ≡ figures .«cluster_count») × ((s : Described) × Posed s figures) ⌝ }
+    ensures { λ r. ⌜ ((s : Described) → Posed s figures → Scheduled s r (now (placed .exit))) ⌝ }
 {
-    let figures = figures_of(site);
     let n = figures.cluster_count;
     let mut counts = [0; 64];
     let found = search::search(figures, &mut counts[..n]);
@@ -53,22 +55,47 @@ fn place_clusters(site: Site, placed: &mut [u8]) -> Schedule
 }
 
 // Plans accepted records: 7 or 8 where there is no plan, 9 where the room is shorter than its text.
+// The clusters are walked twice: for their parents, the sum of their portions and the length of the
+// text, which no order of start changes; and in order of start for the lines, each cluster starting
+// where the one before it ends.
 pub fn plan_accepted(site: Site, room: &mut [u8]) -> Planned
     requires { ⌜ checked site ≡ Accepted ⌝ }
     ensures { λ r. ⌜ (r ≡ outcomeAnswer site (planOf (siteOf site)) (length (now (room .entry)))) × (now (room .exit) ≡ outcomeRoom site (planOf (siteOf site)) (now (room .entry))) ⌝ }
 {
     let n = wide(site.cluster_count);
     let mut placed = [0; 64];
-    let schedule = place_clusters(site, &mut placed[..n]);
+    let clusters = site.clusters;
+    let mut parents = [0; 64];
+    let mut total: u32 = 0;
+    let mut size: usize = 9;
+    let mut i: usize = 0;
+    while i < n {
+        let cluster = clusters[i];
+        parents[i] = cluster.parent;
+        total += Order::new(cluster.order).portion();
+        size += 23 + 2 * wide(cluster.tag.len);
+        i += 1;
+    }
+    let schedule = place_clusters(figures_of(site, parents, total), &mut placed[..n]);
     match schedule {
         Schedule::NoFit => Planned::Refused { number: 7, line: 0 },
         Schedule::NoPlacing => Planned::Refused { number: 8, line: 0 },
         Schedule::Made { order, count } => {
-            let sequence = &placed[..count];
-            if room.len() < plantext::length(site, sequence) {
+            if room.len() < size {
                 return Planned::Refused { number: 9, line: 0 };
             }
-            let length = plantext::put(room, site, order, sequence);
+            let mut length = plantext::put_header(room, order, site.cluster_count);
+            let mut start: u32 = 0;
+            let mut k: usize = 0;
+            while k < count {
+                let number = placed[k];
+                let c = wide(number);
+                let cluster = clusters[c];
+                let portion = Order::new(cluster.order).portion();
+                length = plantext::put_cluster(room, length, number, start, portion, cluster.tag);
+                start += portion;
+                k += 1;
+            }
             Planned::Plan { length, order }
         }
     }

@@ -1,4 +1,4 @@
 -- the site that records describe, and the plan text
 pub mod PlanText
--- laws of them, which the code uses
+-- laws of them, which the planner uses
 pub mod PlanTextLaws

@@ -56,7 +56,7 @@ abbrev pub Fresh : ℕ → List ℕ → List ℕ → Type 0
 Fresh n earlier [] = Unit {0}
 Fresh n earlier (c ∷ cs) = (c < n) × (member c earlier ≡ false) × Fresh n (c ∷ earlier) cs
 
--- what the writer of the text asks: records that the check accepts, and a sequence of their clusters
+-- records that the check accepts, and a sequence of their clusters
 pub record Placed (s : Site) (sequence : List ℕ) : Type 0 where
   pub accepted : checked s ≡ Accepted
   pub fresh : Fresh (s .«cluster_count») [] sequence

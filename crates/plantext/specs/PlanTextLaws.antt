@@ -3,7 +3,6 @@ use mathlib.Core.Path.{_≡_, refl, ap, _∙_}
 use mathlib.Core.Bool.{false}
 use mathlib.Core.List.{List, [], _∷_, _++_, map}
 use Prim.Native.Nat.{ℕ, zero, suc, _+_, _*_, _≤_, _<_}
-use native.Mathlib.Nat.{suc-mul, mul-le-mul-right}
 use native.Mathlib.Numerals.{add-one}
 use native.Mathlib.Omega.{arith}
 use lib.ListN.{length, getD, take, drop, length-append, List·getD-map}
@@ -103,25 +102,3 @@ module _ (s : Site) where
         → clusterLine c start len (getD (s .clusters) index absent .tag) ≡ planLine s xs c
     unfolding planLine
     line-here index start len e f g = rw (e, f, g, start-here)
-
-    pub length-here : length (lineOf (planLine s xs c)) ≡ 23 + 2 * cluster .tag .len
-    unfolding planLine
-    length-here = cluster-length c (starts (siteOf s) xs c) (portion (cluster .order)) (cluster .tag) (cluster-in-range .whole)
-
--- lines of at most so many bytes each
-lines-bounded : (bytes : ℕ → List ℕ) (most : ℕ) (ys : List ℕ) → ((i : ℕ) → i < length ys → length (lineOf (bytes (at ys i))) ≤ most) → length (linesOf bytes ys) ≤ length ys * most
-unfolding linesOf
-lines-bounded bytes most [] h = omega arith
-lines-bounded bytes most (y ∷ ys) h =
-    let first = h 0 (omega arith) in
-    let rest = lines-bounded bytes most ys (λ i l. h (suc i) (omega arith)) in
-    let both = suc-mul (length ys) most in
-    omega (arith, first, rest, both, length-append (lineOf (bytes y)) (linesOf bytes ys))
-
--- a plan text has at most 9,673 bytes
-pub text-bounded : (s : Site) (order : ℕ) (xs : List ℕ) → Placed s xs → length (planText s order xs) ≤ 9673
-unfolding planLines
-text-bounded s order xs p =
-    let lines = lines-bounded (planLine s xs) 151 xs (λ i l. omega (arith, length-here s xs p i l, cluster-in-range s xs p i l .short)) in
-    let many : length xs * 151 ≤ 64 * 151 = mul-le-mul-right 151 (p .short) in
-    omega (arith, lines, many, text-length s order xs)

@@ -1,5 +1,4 @@
--- `planner::place_clusters` meets its contract: the figures of accepted records pose the site that they describe, so the search finds that site's order and counts, and the sequence over
--- them is the plan's.
+-- `planner::place_clusters` meets its contract: the search finds the order and the counts of every site that the figures describe, and the sequence over them is the plan's.
 use mathlib.Core.Path.{_≡_, sym, ap, _∙_}
 use mathlib.Core.List.{List, _++_}
 use Prim.Native.Nat.{ℕ, _≤_}
@@ -7,15 +6,13 @@ use native.Mathlib.Omega.{arith}
 use lib.ListN.{length, take, drop, replicate}
 use lib.Seq.{length-take-le, length-front, take-at}
 use Rattle.model.specs.Plans.{plan, planned}
-use Rattle.model.specs.Sites as model
-use Rattle.plantext.specs.PlanText.{siteOf}
+use Rattle.model.specs.Sites.{Site}
 use Rattle.search.specs.declared.Figures.{Figures}
 use Rattle.search.specs.declared.Found.{Found}
 use Rattle.search.specs.Posed.{Posed, foundAs}
 use Rattle.search.specs.PosedLaws.{Reaches, clusters-fit, parents-reach}
 use Rattle.planner.specs.Schedules.{scheduledAs, scheduledCount}
 use Rattle.planner.specs.SequenceLaws.{planned-fresh, sequence-is}
-use Rattle.planner.specs.SiteLaws.{clusters-counted}
 use borrow.Author.Needs.{needs}
 use Rattle.planner.proofs.place_clusters.Statement.{statement}
 use Rattle.planner.proofs.place_clusters.Tie as tie
@@ -23,22 +20,22 @@ use Rattle.planner.proofs.place_clusters.Tie as tie
 abbrev zeros : List ℕ
 zeros = replicate 64 0
 
--- once the figures are there
-module _ (c : tie.After-figures-of) where
+-- the figures, and a site that they describe
+module _ (c : tie.After-slice-known) where
   abbrev start : tie.Start
-  start = c .before .before
-
-  abbrev described : model.Site
-  described = siteOf (start .args .site)
+  start = c .before
 
   abbrev figures : Figures
-  figures = c .figures-of .result
+  figures = start .args .figures
 
   abbrev n : ℕ
   n = figures .«cluster_count»
 
+  abbrev described : Site
+  described = start .pre .1 .0
+
   posed : Posed described figures
-  posed = c .figures-of .ensures
+  posed = start .pre .1 .1
 
   n-bounded : n ≤ 64
   n-bounded = clusters-fit described figures posed .1
@@ -51,7 +48,7 @@ module _ (c : tie.After-figures-of) where
 
 -- once the search is done: the counts are the array's front
 module _ (c : tie.After-search) where
-  abbrev posing : tie.After-figures-of
+  abbrev posing : tie.After-slice-known
   posing = c .before .before
 
   abbrev counts : List ℕ
@@ -69,11 +66,8 @@ module _ (c : tie.After-search) where
   counts-here : take (n posing) whole ≡ counts
   counts-here = take-at counts (drop (n posing) zeros) (n posing) (c .search .kept .1 .0 ∙ zeros-number posing)
 
-  found-as : {r : Found} → c .search .result ≡ r → plan (described posing) ≡ foundAs r counts (described posing)
-  found-as e = c .search .ensures (described posing) (posed posing) .outcome ∙ ap (λ (r : Found). foundAs r counts (described posing)) e
-
-figures-of-requires : tie.Need-figures-of-requires
-figures-of-requires c κs = search needs
+  found-as : (s : Site) → Posed s (figures posing) → {r : Found} → c .search .result ≡ r → plan s ≡ foundAs r counts s
+  found-as s posed e = c .search .ensures s posed .outcome ∙ ap (λ (r : Found). foundAs r counts s) e
 
 array-borrow-prefix-counts : tie.Need-array-borrow-prefix-counts
 array-borrow-prefix-counts c = n-bounded c
@@ -110,37 +104,34 @@ sequence-requires c κs =
     let searched = c .before .before .before .before .before .before .before .before in
     let posing = posing searched in
     let parents = parents-fit posing .number in
-    let all = start posing .pre .1 ∙ sym (posed posing .clusters-counted ∙ clusters-counted _ (start posing .pre .0)) in
-    (record { few = omega (arith, parents, n-bounded posing); counted = counts-number searched ∙ sym parents }, all ∙ sym parents)
+    (record { few = omega (arith, parents, n-bounded posing); counted = counts-number searched ∙ sym parents }, start posing .pre .0 ∙ sym parents)
 
 returns : tie.Need-returns
 unfolding foundAs scheduledAs scheduledCount
-returns c = (found-as (c .before .before .before) (c .enum-told .given .1), omega arith)
+returns c = λ s posed. record { outcome = found-as (c .before .before .before) s posed (c .enum-told .given .1); counted = omega arith }
 
 returns-2 : tie.Need-returns-2
 unfolding foundAs scheduledAs scheduledCount
-returns-2 c = (found-as (c .before .before .before) (c .enum-told2 .given .1), omega arith)
+returns-2 c = λ s posed. record { outcome = found-as (c .before .before .before) s posed (c .enum-told2 .given .1); counted = omega arith }
 
 same-length : tie.Need-same-length
 same-length c = search needs
 
 returns-3 : tie.Need-returns-3
 unfolding foundAs scheduledAs scheduledCount
-returns-3 c =
+returns-3 c = λ s posed.
     let searched = c .before .before .before .before .before .before .before .before .before .before .before in
-    let posing = posing searched in
     let placed = c .before .before .sequence in
     let found = c .before .before .before .before .before .before .before .before .found .given in
     let order : ℕ = found .0 .0 in
-    let planned-so = found-as searched (found .1) ∙ ap (planned order) (sym (placed .ensures .first ∙ sequence-is (described posing) _ _ _ (posed posing .parents-are) (counts-here searched))) in
-    let few = planned-fresh (described posing) _ _ planned-so .1 in
-    (planned-so, omega (arith, few, placed .ensures .number, ap length (placed .ensures .first), clusters-counted _ (start posing .pre .0), placed .kept .1 .1 .0, start posing .pre .1))
+    let planned-so = found-as searched s posed (found .1) ∙ ap (planned order) (sym (placed .ensures .first ∙ sequence-is s _ _ _ (posed .parents-are) (counts-here searched))) in
+    let few = planned-fresh s _ _ planned-so .1 in
+    record { outcome = planned-so; counted = omega (arith, few, placed .ensures .number, ap length (placed .ensures .first), posed .clusters-counted, placed .kept .1 .1 .0, start (posing searched) .pre .0) }
 
 pub place-clusters-spec : {M : Type 1} → statement M
 place-clusters-spec =
     tie.close
     (tie.spec
-    figures-of-requires
     array-borrow-prefix-counts
     slice-aggregate-search
     search-requires

@@ -14,7 +14,7 @@ use Rattle.planner.specs.Answers.{plannedSays}
 use Rattle.commission.specs.Numbers.{numberOf}
 use Rattle.exactness.specs.CallerExact.{Reads, ExactNumber, Returned, refusal-in-range, taken, answer-refusal, returned-by-answer, returned-by-reader, number-exact}
 use Rattle.exactness.specs.PlannerExact.{ExactAnswer}
-use Rattle.exactness.specs.PlanSize.{plan-size-at-most}
+use Rattle.planner.specs.PlanSize.{plan-size-at-most}
 use borrow.Author.Needs.{needs}
 use Rattle.demands.proofs.clients.survey.Statement.{statement}
 use Rattle.demands.proofs.clients.survey.Tie as tie

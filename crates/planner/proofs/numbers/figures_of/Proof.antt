@@ -1,178 +1,120 @@
--- `planner::numbers::figures_of` meets its contract: each number is taken from accepted records, which describe a sound site, so each is that site's.
-use mathlib.Core.Path.{_≡_, sym, ap, _∙_}
-use mathlib.Core.List.{List, _++_, map}
-use Prim.Native.Nat.{ℕ, _≤_}
+-- `planner::numbers::figures_of` meets its contract: each number is taken from accepted records, which describe a sound site, so each is that site's (`Turns` has the loop's invariant).
+mod Turns
+use mathlib.Core.Path.{_≡_, refl, sym, _∙_}
+use mathlib.Core.Logic.{⊎-elim}
 use native.Mathlib.Omega.{arith}
-use lib.ListN.{length, take, drop, replicate}
-use lib.Seq.{length-take-le, length-front, take-at}
-use Rattle.hexline.specs.Loops.{filled-length}
-use Rattle.model.specs.Counting.{at, values}
-use Rattle.model.specs.Relaxing.{depths}
-use Rattle.model.specs.Sites as model
-use Rattle.model.specs.Trees.{depth}
-use Rattle.plantext.specs.PlanText.{siteOf}
-use Rattle.site.specs.declared.Site.{Site}
-use Rattle.site.specs.declared.Verdict.the-variants.{Accepted}
-use Rattle.records.specs.Check.{checked}
-use Rattle.planner.specs.SiteLaws.{counts-bounded, orders-bounded, clusters-counted, flows-counted, parents-are, sources-are, sinks-are, deadlines-are, descents-are, total-is, permits-alike, describes-sound, flows-in-tree}
+use lib.Seq.{length-take-le}
+use Rattle.hexline.specs.Loops.{filled, filled-next}
+use Rattle.model.specs.Relaxing.{depths as depthsOf}
+use Rattle.planner.specs.NumberLaws.{shortest-more, shortest-ends}
+use Rattle.planner.specs.SiteLaws.{counts-bounded, clusters-counted, flows-counted, describes-sound, total-is, numbers-are, descents-are, permits-alike}
 use borrow.Author.Needs.{needs}
+use Rattle.planner.proofs.numbers.figures_of.Proof.Turns.{Inv-loop, μ-loop, zeros, start, site, f, accepted, n-is, f-is, n-bounded, f-bounded, f-whole, parents-fit, parents-number, parents-here, tree, counted, levels-are, was, deep, first, turn, ends-here, ends, top-there, difference}
 use Rattle.planner.proofs.numbers.figures_of.Statement.{statement}
 use Rattle.planner.proofs.numbers.figures_of.Tie as tie
 
-abbrev zeros : List ℕ
-zeros = replicate 64 0
-
--- once the clusters' numbers are there
-module _ (c : tie.After-clusters-of) where
-  abbrev start : tie.Start
-  start = c .before .before .before .before
-
-  abbrev site : Site
-  site = start .args .site
-
-  abbrev described : model.Site
-  described = siteOf site
-
-  abbrev n : ℕ
-  n = c .before .before .before .wide .result
-
-  abbrev f : ℕ
-  f = c .before .before .wide2 .result
-
-  accepted : checked site ≡ Accepted
-  accepted = start .pre
-
-  n-is : n ≡ site .«cluster_count»
-  n-is = c .before .before .before .wide .ensures .0
-
-  f-is : f ≡ site .«flow_count»
-  f-is = c .before .before .wide2 .ensures .0
-
-  n-bounded : n ≤ 64
-  n-bounded = omega (arith, n-is, counts-bounded site accepted .1)
-
-  f-bounded : f ≤ 128
-  f-bounded = omega (arith, f-is, counts-bounded site accepted .2)
-
-  parents-fit : n ≤ length (c .clusters-of .result .parents)
-  parents-fit = omega (arith, n-bounded, ap length (c .clusters-of .ensures .0) ∙ filled-length _ (replicate 64 0) n)
-
-  parents-number : length (take n (c .clusters-of .result .parents)) ≡ n
-  parents-number = length-take-le n (c .clusters-of .result .parents) parents-fit
-
-  parents-here : take n (c .clusters-of .result .parents) ≡ described .parents
-  parents-here = parents-are site accepted n n-is _ (c .clusters-of .ensures .0)
-
--- once the depths are there: they are the array's front
-module _ (c : tie.After-depths2) where
-  abbrev rooted : tie.After-clusters-of
-  rooted = c .before .before .before .before
-
-  abbrev levels : List ℕ
-  levels = c .depths2 .last .1 .0 ++ drop (n rooted) zeros
-
-  levels-fit : n rooted ≤ length levels
-  levels-fit = omega (arith, n-bounded rooted, length-front zeros (c .depths2 .last .1 .0) (n rooted) (c .depths2 .kept .1 .0))
-
-  levels-are : take (n rooted) levels ≡ values (depth (at (take (n rooted) (rooted .clusters-of .result .parents)))) 0 (length (take (n rooted) (rooted .clusters-of .result .parents)))
-  levels-are = take-at (c .depths2 .last .1 .0) (drop (n rooted) zeros) (n rooted) (c .depths2 .kept .1 .0 ∙ length-take-le _ zeros (n-bounded rooted)) ∙ c .depths2 .ensures
-
--- once the flows' numbers are there
-module _ (c : tie.After-flows-of) where
-  abbrev deep : tie.After-depths2
-  deep = c .before .before .before
-
-  abbrev first : tie.After-clusters-of
-  first = rooted deep
-
-  sources-fit : f first ≤ length (c .flows-of .result .sources)
-  sources-fit = omega (arith, f-bounded first, ap (λ r. length (r .sources)) (c .flows-of .ensures) ∙ filled-length _ (replicate 128 0) _)
-
-  sinks-fit : f first ≤ length (c .flows-of .result .sinks)
-  sinks-fit = omega (arith, f-bounded first, ap (λ r. length (r .sinks)) (c .flows-of .ensures) ∙ filled-length _ (replicate 128 0) _)
-
-  sources-here : take (f first) (c .flows-of .result .sources) ≡ map (λ g. g .source) (described first .flows)
-  sources-here = sources-are (site first) (accepted first) (f first) (f-is first) _ (ap (λ r. r .sources) (c .flows-of .ensures))
-
-  sinks-here : take (f first) (c .flows-of .result .sinks) ≡ map (λ g. g .sink) (described first .flows)
-  sinks-here = sinks-are (site first) (accepted first) (f first) (f-is first) _ (ap (λ r. r .sinks) (c .flows-of .ensures))
-
-  deadlines-here : take (f first) (c .flows-of .result .deadlines) ≡ map (λ g. g .deadline) (described first .flows)
-  deadlines-here = deadlines-are (site first) (accepted first) (f first) (f-is first) _ (ap (λ r. r .deadlines) (c .flows-of .ensures))
-
-wide-requires : tie.Need-wide-requires
+wide-requires : tie.Need-wide-requires Inv-loop μ-loop
 wide-requires c κs = search needs
 
-wide-requires-2 : tie.Need-wide-requires-2
+wide-requires-2 : tie.Need-wide-requires-2 Inv-loop μ-loop
 wide-requires-2 c κs = search needs
 
-clusters-of-requires : tie.Need-clusters-of-requires
-clusters-of-requires c κs =
-    let start = c .before .before .before in
-    let count = c .before .before .wide .ensures .0 in
-    (omega (arith, count, counts-bounded (start .args .site) (start .pre) .1), rw count (orders-bounded (start .args .site) (start .pre)))
+array-share-prefix-parents : tie.Need-array-share-prefix-parents Inv-loop μ-loop
+array-share-prefix-parents c = parents-fit c
 
-array-share-prefix-parents : tie.Need-array-share-prefix-parents
-array-share-prefix-parents c = parents-fit (c .before)
+slice-aggregate-depths : tie.Need-slice-aggregate-depths Inv-loop μ-loop
+slice-aggregate-depths c = sym (parents-number (c .before))
 
-slice-aggregate-depths : tie.Need-slice-aggregate-depths
-slice-aggregate-depths c = sym (parents-number (c .before .before))
+array-borrow-prefix-depths : tie.Need-array-borrow-prefix-depths Inv-loop μ-loop
+array-borrow-prefix-depths c = n-bounded (c .before)
 
-array-borrow-prefix-depths : tie.Need-array-borrow-prefix-depths
-array-borrow-prefix-depths c = n-bounded (c .before .before)
+slice-aggregate-depths-2 : tie.Need-slice-aggregate-depths-2 Inv-loop μ-loop
+slice-aggregate-depths-2 c = sym (length-take-le _ zeros (n-bounded (c .before .before)))
 
-slice-aggregate-depths-2 : tie.Need-slice-aggregate-depths-2
-slice-aggregate-depths-2 c = sym (length-take-le _ zeros (n-bounded (c .before .before .before)))
-
-depths-requires : tie.Need-depths-requires
+depths-requires : tie.Need-depths-requires Inv-loop μ-loop
 depths-requires c κs =
-    let first = c .before .before .before in
-    let number = parents-number first in (
-      omega (arith, number, n-bounded first),
-      length-take-le _ zeros (n-bounded first) ∙ sym number,
-      rw (parents-here first) (describes-sound (site first) (accepted first) .tree),
+    let first = c .before .before in
+    let number = parents-number first in
+    (omega (arith, number, n-bounded first), length-take-le _ zeros (n-bounded first) ∙ sym number, tree first)
+
+loop-holds : tie.Need-loop-holds Inv-loop μ-loop
+unfolding filled
+loop-holds c = (search needs, refl, refl, refl, refl, refl)
+
+mul-flow : tie.Need-mul-flow Inv-loop μ-loop
+mul-flow c = omega (arith, f-bounded (counted (c .before .before .before .before)))
+
+array-copy-out-flow : tie.Need-array-copy-out-flow Inv-loop μ-loop
+array-copy-out-flow c = omega (arith, f-bounded (counted (c .before .before .before .before)))
+
+array-write-sources : tie.Need-array-write-sources Inv-loop μ-loop
+array-write-sources c = omega (arith, f-bounded (counted (c .before .before .before .before .before)))
+
+array-write-sinks : tie.Need-array-write-sinks Inv-loop μ-loop
+array-write-sinks c = omega (arith, f-bounded (counted (c .before .before .before .before .before)))
+
+mul-deadlines : tie.Need-mul-deadlines Inv-loop μ-loop
+mul-deadlines c = omega (arith, f-bounded (counted (c .before .before .before .before .before)))
+
+array-write-deadlines : tie.Need-array-write-deadlines Inv-loop μ-loop
+array-write-deadlines c = omega (arith, f-bounded (counted (c .before .before .before .before .before)))
+
+wide-requires-3 : tie.Need-wide-requires-3 Inv-loop μ-loop
+wide-requires-3 c κs = search needs
+
+array-share-prefix-parents-2 : tie.Need-array-share-prefix-parents-2 Inv-loop μ-loop
+array-share-prefix-parents-2 c = parents-fit (counted (c .before .before .before .before .before .before .before .before))
+
+slice-aggregate-top : tie.Need-slice-aggregate-top Inv-loop μ-loop
+slice-aggregate-top c = sym (parents-number (counted (c .before .before .before .before .before .before .before .before .before)))
+
+wide-requires-4 : tie.Need-wide-requires-4 Inv-loop μ-loop
+wide-requires-4 c κs = search needs
+
+top-requires : tie.Need-top-requires Inv-loop μ-loop
+top-requires c κs = (ends-here c .0, ends-here c .1, tree (first c))
+
+array-read-descents : tie.Need-array-read-descents Inv-loop μ-loop
+array-read-descents c = omega (arith, ends-here (ends c) .1, parents-number (first (ends c)), n-bounded (first (ends c)))
+
+array-read-descents-2 : tie.Need-array-read-descents-2 Inv-loop μ-loop
+array-read-descents-2 c = omega (arith, top-there c .0, parents-number (first (ends c)), n-bounded (first (ends c)))
+
+sub-descents : tie.Need-sub-descents Inv-loop μ-loop
+sub-descents c = omega (arith, top-there c .1)
+
+array-write-descents : tie.Need-array-write-descents Inv-loop μ-loop
+array-write-descents c = omega (arith, turn (ends c), f-bounded (first (ends c)))
+
+add-i : tie.Need-add-i Inv-loop μ-loop
+add-i c = search needs
+
+loop-less : tie.Need-loop-less Inv-loop μ-loop
+loop-less c = search needs
+
+loop-again : tie.Need-loop-again Inv-loop μ-loop
+loop-again c =
+    let here = ends c in
+    let inv = was here .loop .inv in
+    let if1 = c .before .before .before .before .if1 in (
+      search needs,
+      filled-next _ _ _ _ _ (inv .1) refl,
+      filled-next _ _ _ _ _ (inv .2) refl,
+      filled-next _ _ _ _ _ (inv .3) refl,
+      filled-next _ _ _ _ _ (inv .4) (difference c),
+      shortest-more (site (first here) .flows) (f (first here)) (was here .loop .i) (was here .loop .shortest) (turn here) (f-whole (first here)) (if1 .shortest) (⊎-elim (λ w. omega arith) (λ w. omega arith) (if1 .came)) ∙ inv .5,
     )
 
-flows-of-requires : tie.Need-flows-of-requires
-flows-of-requires c κs = omega (arith, f-bounded (rooted (c .before .before)))
-
-array-share-prefix-parents-2 : tie.Need-array-share-prefix-parents-2
-array-share-prefix-parents-2 c = parents-fit (first (c .before .before .before))
-
-slice-aggregate-descents-of : tie.Need-slice-aggregate-descents-of
-slice-aggregate-descents-of c = sym (parents-number (first (c .before .before .before .before)))
-
-array-share-prefix-depths : tie.Need-array-share-prefix-depths
-array-share-prefix-depths c = levels-fit (deep (c .before .before .before .before))
-
-slice-aggregate-descents-of-2 : tie.Need-slice-aggregate-descents-of-2
-slice-aggregate-descents-of-2 c = sym (length-take-le _ _ (levels-fit (deep (c .before .before .before .before .before))))
-
-array-share-prefix-sources : tie.Need-array-share-prefix-sources
-array-share-prefix-sources c = sources-fit (c .before .before .before .before .before)
-
-slice-aggregate-descents-of-3 : tie.Need-slice-aggregate-descents-of-3
-slice-aggregate-descents-of-3 c = sym (length-take-le _ _ (sources-fit (c .before .before .before .before .before .before)))
-
-array-share-prefix-sinks : tie.Need-array-share-prefix-sinks
-array-share-prefix-sinks c = sinks-fit (c .before .before .before .before .before .before)
-
-slice-aggregate-descents-of-4 : tie.Need-slice-aggregate-descents-of-4
-slice-aggregate-descents-of-4 c = sym (length-take-le _ _ (sinks-fit (c .before .before .before .before .before .before .before)))
-
-descents-of-requires : tie.Need-descents-of-requires
-descents-of-requires c κs =
-    let flows = c .before .before .before .before .before .before .before in
-    let first = first flows in
-    flows-in-tree (site first) (accepted first) _ _ _ _ (parents-here first) (levels-are (deep flows)) (sources-here flows) (sinks-here flows)
-
-returns : tie.Need-returns
-unfolding depths
+returns : tie.Need-returns Inv-loop μ-loop
+unfolding depthsOf
 returns c =
-    let flows = c .before .before .before .before .before .before .before .before in
-    let first = first flows in
+    let inv = c .before .loop .inv in
+    let deep = c .before .before .before .before in
+    let first = counted deep in
     let site = site first in
     let accepted = accepted first in
+    let all : c .before .loop .i ≡ f first = omega arith in
+    let least = sym (shortest-ends (site .flows) (f first) (c .before .loop .i) (c .before .loop .shortest) (c .loop-test .left) (f-whole first)) ∙ inv .5 in
     record {
       sound = describes-sound site accepted;
       few = omega (arith, clusters-counted site accepted, counts-bounded site accepted .1);
@@ -180,35 +122,45 @@ returns c =
       clusters-counted = n-is first ∙ sym (clusters-counted site accepted);
       flows-counted = f-is first ∙ sym (flows-counted site accepted);
       parents-are = parents-here first;
-      depths-are = levels-are (deep flows) ∙ rw (parents-here first);
-      sources-are = sources-here flows;
-      sinks-are = sinks-here flows;
-      descents-are = descents-are site accepted (f first) (f-is first) _ _ _ _ (parents-here first) (sources-here flows) (sinks-here flows) (c .descents-of .ensures);
-      deadlines-are = deadlines-here flows;
-      permits = permits-alike site accepted (f first) (f-is first) _ (ap (λ r. r .shortest) (flows .flows-of .ensures));
-      sums = total-is site accepted (n first) (n-is first) _ (first .clusters-of .ensures .1);
+      depths-are = levels-are deep ∙ rw (parents-here first);
+      sources-are = numbers-are site accepted (f first) (f-is first) (λ g. g .source) _ (rw all at (inv .1));
+      sinks-are = numbers-are site accepted (f first) (f-is first) (λ g. g .sink) _ (rw all at (inv .2));
+      descents-are = descents-are site accepted (f first) (f-is first) _ _ (parents-here first) (rw all at (inv .4));
+      deadlines-are = numbers-are site accepted (f first) (f-is first) (λ g. g .deadline) _ (rw all at (inv .3));
+      permits = permits-alike site accepted (f first) (f-is first) _ least;
+      sums = total-is site accepted _ (start first .pre .1 .1);
     }
 
 pub figures-of-spec : {M : Type 1} → statement M
 figures-of-spec =
     tie.close
     (tie.spec
+    Inv-loop
+    μ-loop
     wide-requires
     wide-requires-2
-    clusters-of-requires
     array-share-prefix-parents
     slice-aggregate-depths
     array-borrow-prefix-depths
     slice-aggregate-depths-2
     depths-requires
-    flows-of-requires
+    loop-holds
+    mul-flow
+    array-copy-out-flow
+    array-write-sources
+    array-write-sinks
+    mul-deadlines
+    array-write-deadlines
+    wide-requires-3
     array-share-prefix-parents-2
-    slice-aggregate-descents-of
-    array-share-prefix-depths
-    slice-aggregate-descents-of-2
-    array-share-prefix-sources
-    slice-aggregate-descents-of-3
-    array-share-prefix-sinks
-    slice-aggregate-descents-of-4
-    descents-of-requires
+    slice-aggregate-top
+    wide-requires-4
+    top-requires
+    array-read-descents
+    array-read-descents-2
+    sub-descents
+    array-write-descents
+    add-i
+    loop-less
+    loop-again
     returns)

@@ -10,8 +10,9 @@ use Rattle.hexline.specs.Digits.{lineOf}
 use Rattle.hexroom.specs.Listing.{linesOf}
 use Rattle.model.specs.Counting.{sumBelow, sumOver}
 use Rattle.model.specs.CountingLaws.{sum-same}
-use Rattle.model.specs.Exactness.{IsPlan}
+use Rattle.model.specs.Exactness.{plan-is-exact}
 use Rattle.model.specs.Orders.{portion}
+use Rattle.model.specs.Plans.{plan, planned}
 use Rattle.model.specs.Sequences.{starts}
 use Rattle.site.specs.declared.Cluster.{Cluster}
 use Rattle.site.specs.declared.Site.{Site}
@@ -21,7 +22,7 @@ use Rattle.records.specs.Check.{checked}
 use Rattle.records.specs.Checked.{checked-unrefused, counts-in, site-cluster-in}
 use Rattle.plantext.specs.PlanText.{siteOf, planLine, planLines, planText}
 use Rattle.plantext.specs.PlanTextLaws.{cluster-length, text-length}
-use Rattle.planner.specs.SiteLaws.{clusters-counted}
+use Rattle.planner.specs.SiteLaws.{clusters-counted, describes-sound}
 
 abbrev pub lineSize : Site → ℕ → ℕ
 lineSize s c = 23 + 2 * getD (s .clusters) c absent .tag .len
@@ -50,9 +51,9 @@ module _ (s : Site) (accepted : checked s ≡ Accepted) where
         counts-in s (checked-unrefused s accepted) .clusters,
       )
 
-  pub plan-text-size : (order : ℕ) (sequence : List ℕ) → IsPlan (siteOf s) order sequence → length (planText s order sequence) ≡ planSize s
+  pub plan-text-size : (order : ℕ) (sequence : List ℕ) → plan (siteOf s) ≡ planned order sequence → length (planText s order sequence) ≡ planSize s
   unfolding planSize planLines planLine
-  plan-text-size order sequence plan =
+  plan-text-size order sequence e =
       let n : ℕ = s .«cluster_count» in
       let size : ℕ → ℕ = λ c. length (lineOf (planLine s sequence c)) in
       let line : (c : ℕ) → c < n → size c ≡ lineSize s c = λ c l.
@@ -62,7 +63,7 @@ module _ (s : Site) (accepted : checked s ≡ Accepted) where
         arith,
         text-length s order sequence,
         lines-length (planLine s sequence) sequence,
-        plan .each-once size,
+        plan-is-exact (siteOf s) (describes-sound s accepted) .planned-is order sequence e .each-once size,
         ap (λ m. sumBelow m size) (clusters-counted s accepted),
         sum-same n size (lineSize s) line,
       )

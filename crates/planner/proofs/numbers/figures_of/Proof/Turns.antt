@@ -1,0 +1,145 @@
+-- The loop of `planner::numbers::figures_of`, and what is known before it and in a turn. The invariant: the numbers of the flows before `i` are filled in, and the least of the period so far
+-- and those of the flows from `i` on is the least of all. The top of a path is not deeper than its sink, so the difference of their depths is there.
+use mathlib.Core.Path.{_≡_, ap, _∙_}
+use mathlib.Core.List.{List, _++_}
+use Prim.Native.Nat.{ℕ, _-_, _≤_, _<_}
+use native.Mathlib.Omega.{arith}
+use lib.ListN.{length, getD, take, drop, replicate}
+use lib.Seq.{length-take-le, take-at}
+use Rattle.hexline.specs.Loops.{filled-length}
+use Rattle.model.specs.Counting.{at, values}
+use Rattle.model.specs.Orders.{shortest as least}
+use Rattle.model.specs.Sites as model
+use Rattle.model.specs.Trees.{Tree, depth}
+use Rattle.plantext.specs.PlanText.{siteOf}
+use Rattle.site.specs.declared.Flow.{Flow}
+use Rattle.site.specs.declared.Site.{Site}
+use Rattle.site.specs.declared.Verdict.the-variants.{Accepted}
+use Rattle.site.specs.Records.{noFlow}
+use Rattle.records.specs.Check.{checked}
+use Rattle.planner.specs.Numbers.{flowNumbers, periodsOf, descentIn}
+use Rattle.planner.specs.NumberLaws.{top-here, descent-here}
+use Rattle.planner.specs.SiteLaws.{flows-whole, counts-bounded, ends-there, describes-sound, parents-are}
+use Rattle.planner.proofs.numbers.figures_of.Tie as tie
+
+abbrev pub Inv-loop : tie.InvT-loop
+Inv-loop total parents cluster-count flow-count depths flows sources₀ sinks₀ deadlines₀ descents₀ shortest₀ i₀ sources sinks deadlines descents shortest i =
+    (i ≤ flow-count)
+    × (sources ≡ flowNumbers (λ f. f .source) flows i)
+    × (sinks ≡ flowNumbers (λ f. f .sink) flows i)
+    × (deadlines ≡ flowNumbers (λ f. f .deadline) flows i)
+    × (descents ≡ flowNumbers (descentIn (take cluster-count parents)) flows i)
+    × (least shortest (drop i (periodsOf flows flow-count)) ≡ least 1000000000 (periodsOf flows flow-count))
+
+abbrev pub μ-loop : tie.MeasureT-loop
+μ-loop total parents cluster-count flow-count depths flows sources₀ sinks₀ deadlines₀ descents₀ shortest₀ i₀ sources sinks deadlines descents shortest i = flow-count - i
+
+abbrev pub zeros : List ℕ
+zeros = replicate 64 0
+
+-- once the clusters and the flows are counted
+module _ (c : tie.After-wide2 Inv-loop μ-loop) where
+  abbrev pub start : tie.Start Inv-loop μ-loop
+  start = c .before .before
+
+  abbrev pub site : Site
+  site = start .args .site
+
+  abbrev described : model.Site
+  described = siteOf site
+
+  abbrev n : ℕ
+  n = c .before .wide .result
+
+  abbrev pub f : ℕ
+  f = c .wide2 .result
+
+  abbrev parents : List ℕ
+  parents = take n (start .args .t2)
+
+  pub accepted : checked site ≡ Accepted
+  accepted = start .pre .0
+
+  pub n-is : n ≡ site .«cluster_count»
+  n-is = c .before .wide .ensures .0
+
+  pub f-is : f ≡ site .«flow_count»
+  f-is = c .wide2 .ensures .0
+
+  pub n-bounded : n ≤ 64
+  n-bounded = omega (arith, n-is, counts-bounded site accepted .1)
+
+  pub f-bounded : f ≤ 128
+  f-bounded = omega (arith, f-is, counts-bounded site accepted .2)
+
+  pub f-whole : f ≤ length (site .flows)
+  f-whole = omega (arith, f-is, flows-whole site accepted)
+
+  pub parents-fit : n ≤ length (start .args .t2)
+  parents-fit = omega (arith, n-bounded, ap length (start .pre .1 .0) ∙ filled-length _ zeros _)
+
+  pub parents-number : length parents ≡ n
+  parents-number = length-take-le n (start .args .t2) parents-fit
+
+  pub parents-here : parents ≡ described .parents
+  parents-here = parents-are site accepted n n-is _ (start .pre .1 .0)
+
+  pub tree : Tree (at parents) (length parents)
+  tree = rw parents-here (describes-sound site accepted .tree)
+
+-- once the depths are there: they are the array's front
+module _ (c : tie.After-depths2 Inv-loop μ-loop) where
+  abbrev pub counted : tie.After-wide2 Inv-loop μ-loop
+  counted = c .before .before .before
+
+  abbrev levels : List ℕ
+  levels = c .depths2 .last .1 .0 ++ drop (n counted) zeros
+
+  pub levels-are : take (n counted) levels ≡ values (depth (at (parents counted))) 0 (length (parents counted))
+  levels-are = take-at (c .depths2 .last .1 .0) (drop (n counted) zeros) (n counted) (c .depths2 .kept .1 .0 ∙ length-take-le _ zeros (n-bounded counted)) ∙ c .depths2 .ensures
+
+  levels-front : take (length (parents counted)) levels ≡ values (depth (at (parents counted))) 0 (length (parents counted))
+  levels-front = ap (λ (k : ℕ). take k levels) (parents-number counted) ∙ levels-are
+
+-- in a turn, once both ends of the flow are known
+module _ (c : tie.After-wide4 Inv-loop μ-loop) where
+  abbrev pub was : tie.At-loop Inv-loop μ-loop
+  was = c .before .before .before .before .before .before .before
+
+  abbrev pub deep : tie.After-depths2 Inv-loop μ-loop
+  deep = was .before .before .before
+
+  abbrev pub first : tie.After-wide2 Inv-loop μ-loop
+  first = counted deep
+
+  abbrev flow : Flow
+  flow = getD (site first .flows) (was .loop .i) noFlow
+
+  pub turn : was .loop .i < f first
+  turn = c .before .before .before .before .before .before .loop-test .taken
+
+  source-is : c .wide4 .result ≡ flow .source
+  source-is = c .wide4 .ensures .0
+
+  sink-is : c .before .before .wide3 .result ≡ flow .sink
+  sink-is = c .before .before .wide3 .ensures .0
+
+  pub ends-here : (c .wide4 .result < length (parents first)) × (c .before .before .wide3 .result < length (parents first))
+  ends-here =
+      let ends = ends-there (site first) (accepted first) (was .loop .i) (omega (arith, turn, f-is first)) in
+      let number = parents-number first in
+      (omega (arith, source-is, ends .0, number, n-is first), omega (arith, sink-is, ends .1, number, n-is first))
+
+-- and the top of its path
+module _ (c : tie.After-top Inv-loop μ-loop) where
+  abbrev pub ends : tie.After-wide4 Inv-loop μ-loop
+  ends = c .before
+
+  abbrev sink : ℕ
+  sink = ends .before .before .wide3 .result
+
+  pub top-there : (c .top .result < length (parents (first ends))) × (at (levels (deep ends)) (c .top .result) ≤ at (levels (deep ends)) sink)
+  top-there = top-here (parents (first ends)) (levels (deep ends)) (tree (first ends)) (levels-front (deep ends)) (flow ends) _ _ _ (source-is ends) (sink-is ends) (ends-here ends .0) (ends-here ends .1) (c .top .ensures)
+
+  pub difference : at (levels (deep ends)) sink - at (levels (deep ends)) (c .top .result) ≡ descentIn (parents (first ends)) (flow ends)
+  difference = descent-here (parents (first ends)) (levels (deep ends)) (tree (first ends)) (levels-front (deep ends)) (flow ends) _ _ _ (source-is ends) (sink-is ends) (ends-here ends .0) (ends-here ends .1) (c .top .ensures)
