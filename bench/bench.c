@@ -17,7 +17,7 @@
 #include "plain.h"
 #include "site_file.h"
 
-#define STACK_LIMIT (24 * 1024)
+#define STACK_LIMIT (16 * 1024)
 #define ROOM CARTHERON_LONGEST_SITE
 #define MOST_BLOCKS 8192
 #define BLOCK_NS 100000.0

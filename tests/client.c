@@ -236,11 +236,11 @@ int main(void)
     clear();
     size_t unused = stack_of(idle), used = stack_of(planning) - unused;
     check(answer == 65536u * CARTHERON_NO_PLACING && holds(""), "the largest site has no placing, and the room stays");
-    check(used <= 24 * 1024, "the stack under cartheron_plan is at most 24 KiB");
+    check(used <= 16 * 1024, "the stack under cartheron_plan is at most 16 KiB");
     printf("stack under cartheron_plan: %zu bytes\n", used);
     used = stack_of(rewriting) - unused;
     check(answer == site_len && holds(site), "the largest site written back on a painted stack");
-    check(used <= 24 * 1024, "the stack under cartheron_rewrite is at most 24 KiB");
+    check(used <= 16 * 1024, "the stack under cartheron_rewrite is at most 16 KiB");
     printf("stack under cartheron_rewrite: %zu bytes\n", used);
     printf("client: %d passed, %d failed\n", passed, failed);
     return failed != 0;

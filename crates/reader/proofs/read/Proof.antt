@@ -1,113 +1,23 @@
 -- `reader::read` meets its contract. The invariant of the lines is `Reached`: what is left of the text, read from line k on after the records so far,
 -- is read as the whole text is; the counts are in range and the arrays whole. Each answer of the line reader takes one line, by the law of that answer.
--- The invariant of the tags: no cluster before `j` has the line's tag; a tag of another print is another tag.
+-- No cluster before `j` has the line's tag: a tag of another print is another tag. The invariants, and what a turn of the loop knows, stand in `Turn`.
+mod Turn
 use mathlib.Core.Path.{_≡_, sym, ap, _∙_}
-use mathlib.Core.Bool.{true, not}
-use mathlib.Core.List.{List}
-use Prim.Native.Nat.{ℕ, _+_, _-_, _≤_, _<_}
+use mathlib.Core.Bool.{not}
+use Prim.Native.Nat.{_-_}
 use native.Mathlib.Omega.{arith}
-use lib.ListN.{length, getD, drop}
-use Rattle.hexline.specs.Loops.{every, every-more}
-use Rattle.hexline.specs.Lines.{Row, lineLength}
-use Rattle.hexline.specs.LineLaws.{line-inside, rowAt}
-use Rattle.site.specs.declared.Cluster.{Cluster}
-use Rattle.site.specs.declared.Flow.{Flow}
-use Rattle.site.specs.declared.Entry.the-variants.{Cluster as ClusterLine, Flow as FlowLine}
-use Rattle.site.specs.declared.Site.{Site}
-use Rattle.site.specs.Records.{noSite, absent, sameTag}
+use Rattle.hexline.specs.Loops.{every-more}
+use Rattle.hexline.specs.LineLaws.{line-inside}
+use Rattle.site.specs.Records.{noSite}
 use Rattle.site.specs.TagLaws.{tag-is-taken, tag-not-taken}
 use Rattle.reader.specs.Reading.{withHeader, withCluster, withFlow}
-use Rattle.reader.specs.ReadLaws.{header-is, ClusterIs, cluster-is, FlowIs, flow-is}
+use Rattle.reader.specs.ReadLaws.{header-is}
 use Rattle.reader.specs.LeftLaws.{left-refused, left-repeated, left-none, left-missing}
-use Rattle.reader.specs.Reached.{Reached, reached-start, reached-header, reached-flow, reached-cluster, reached-unlike}
+use Rattle.reader.specs.Reached.{reached-start, reached-header, reached-flow, reached-cluster, reached-unlike}
 use borrow.Author.Needs.{needs}
 use Rattle.reader.proofs.read.Statement.{statement}
 use Rattle.reader.proofs.read.Tie as tie
-
--- the records so far, which the reader keeps in four locals
-abbrev recordsOf : List Cluster → List Flow → ℕ → ℕ → Site
-recordsOf clusters flows n f = record { flows = flows; «cluster_count» = n; clusters = clusters; «flow_count» = f }
-
-abbrev Inv-loop2 : tie.InvT-loop2
-Inv-loop2 text clusters flows n f prints at k end next after parent order len tag print i j₀ j = (j ≤ i) × (every j (λ m. not (sameTag (getD clusters m absent .tag) tag)) ≡ true)
-
-abbrev μ-loop2 : tie.MeasureT-loop2
-μ-loop2 text clusters flows n f prints at k end next after parent order len tag print i j₀ j = i - j
-
-abbrev Inv-loop : tie.InvT-loop
-Inv-loop text clusters₀ flows₀ n₀ f₀ prints₀ at₀ k₀ clusters flows n f prints at k = Reached text at k (recordsOf clusters flows n f) prints
-
-abbrev μ-loop : tie.MeasureT-loop
-μ-loop text clusters₀ flows₀ n₀ f₀ prints₀ at₀ k₀ clusters flows n f prints at k = length text + 1 - at
-
--- a turn of the loop over the lines, after the line reader has answered
-abbrev Turn : Type 0
-Turn = tie.After-line-entry Inv-loop2 μ-loop2 Inv-loop μ-loop
-
-abbrev text : Turn → List ℕ
-text turn = turn .before .before .before .before .before .before .before .before .before .args .text .now
-
-abbrev at : Turn → ℕ
-at turn = turn .before .before .before .before .before .loop .at
-
-abbrev number : Turn → ℕ
-number turn = turn .before .before .before .before .before .loop .k
-
-abbrev records : Turn → Site
-records turn =
-    let now = turn .before .before .before .before .before .loop in
-    recordsOf (now .clusters) (now .flows) (now .cluster-count) (now .flow-count)
-
-abbrev prints : Turn → List ℕ
-prints turn = turn .before .before .before .before .before .loop .prints
-
-abbrev end : Turn → ℕ
-end turn = turn .before .before .before .line-end .result
-
-running : (turn : Turn) → at turn < length (text turn)
-running turn = turn .before .before .before .before .loop-test .taken
-
-ended : (turn : Turn) → end turn ≡ at turn + lineLength (drop (at turn) (text turn))
-ended turn = turn .before .before .before .line-end .ensures
-
-inside : (turn : Turn) → end turn ≤ length (text turn)
-inside turn = line-inside (text turn) (at turn) (end turn) (omega (arith, running turn)) (ended turn)
-
-onward : (turn : Turn) → length (text turn) + 1 - (end turn + 1) < length (text turn) + 1 - at turn
-onward turn = omega (arith, inside turn, ended turn, running turn)
-
-reached : (turn : Turn) → Reached (text turn) (at turn) (number turn) (records turn) (prints turn)
-reached turn = turn .before .before .before .before .before .loop .inv
-
--- the line that the reader was given
-abbrev row : Turn → Row
-row turn = rowAt (text turn) (at turn) (end turn)
-
--- what is known of it where the reader answers with a cluster, and with a flow
-module _ (turn : Turn) where
-  cluster-line : {p o a m : ℕ} → turn .line-entry .result ≡ ClusterLine p o a m → ClusterIs (number turn) (records turn .«cluster_count») (records turn .«flow_count») (records turn .clusters) (row turn) p o a m
-  cluster-line e = cluster-is (number turn) (records turn .«cluster_count») (records turn .«flow_count») (records turn .clusters) (row turn) _ _ _ _ (sym (turn .line-entry .ensures .0) ∙ e)
-
-  flow-line : {a b p d : ℕ} → turn .line-entry .result ≡ FlowLine a b p d → FlowIs (number turn) (records turn .«cluster_count») (records turn .«flow_count») (records turn .clusters) (row turn) a b p d
-  flow-line e = flow-is (number turn) (records turn .«cluster_count») (records turn .«flow_count») (records turn .clusters) (row turn) _ _ _ _ (sym (turn .line-entry .ensures .0) ∙ e)
-
--- a cluster's line is the second or a later one, and its cluster has room
-cluster-room : (c : tie.After-entry3 Inv-loop2 μ-loop2 Inv-loop μ-loop) →
-    let turn = c .before .before in
-    (1 < number turn) × (number turn ≤ 65) × (number turn ≤ 1 + length (records turn .clusters))
-cluster-room c =
-    let line = cluster-line (c .before .before) (c .entry3 .given .1) in
-    let all = reached (c .before .before) .sized in
-    (line .after, omega (arith, line .within, all .clusters), omega (arith, line .within, all .clusters, all .clusterRoom))
-
--- a flow's line comes after the clusters', and its flow has room
-flow-room : (c : tie.After-entry4 Inv-loop2 μ-loop2 Inv-loop μ-loop) →
-    let turn = c .before .before in
-    (1 + records turn .«cluster_count» < number turn) × (number turn ≤ 1 + records turn .«cluster_count» + 128) × (number turn ≤ 1 + records turn .«cluster_count» + length (records turn .flows))
-flow-room c =
-    let line = flow-line (c .before .before) (c .entry4 .given .1) in
-    let all = reached (c .before .before) .sized in
-    (line .after, omega (arith, line .within, all .flows), omega (arith, line .within, all .flows, all .flowRoom))
+use Rattle.reader.proofs.read.Proof.Turn.{Inv-loop2, μ-loop2, Inv-loop, μ-loop, recordsAt, text, at, number, records, prints, end, running, ended, inside, onward, reached, row, cluster-line, flow-line, cluster-room, flow-room}
 
 no-cluster-requires : tie.Need-no-cluster-requires Inv-loop2 μ-loop2 Inv-loop μ-loop
 no-cluster-requires c κs = search needs
@@ -285,7 +195,7 @@ returns-3 : tie.Need-returns-3 Inv-loop2 μ-loop2 Inv-loop μ-loop
 returns-3 c =
     let due = c .before .before in let at-end = due .before .before .loop in
     c .accepted .ensures
-    ∙ sym (left-none _ (at-end .at) (at-end .k) (recordsOf (at-end .clusters) (at-end .flows) (at-end .cluster-count) (at-end .flow-count)) (due .before .loop-test .left) (sym (due .due-at .ensures) ∙ c .before .if2 .taken))
+    ∙ sym (left-none _ (at-end .at) (at-end .k) (recordsAt (due .before .before)) (due .before .loop-test .left) (sym (due .due-at .ensures) ∙ c .before .if2 .taken))
     ∙ at-end .inv .left
 
 refused-requires-3 : tie.Need-refused-requires-3 Inv-loop2 μ-loop2 Inv-loop μ-loop
@@ -295,7 +205,7 @@ returns-4 : tie.Need-returns-4 Inv-loop2 μ-loop2 Inv-loop μ-loop
 returns-4 c =
     let due = c .before .before in let at-end = due .before .before .loop in
     c .refused3 .ensures
-    ∙ sym (left-missing _ (at-end .at) (at-end .k) (recordsOf (at-end .clusters) (at-end .flows) (at-end .cluster-count) (at-end .flow-count)) (due .before .loop-test .left) (λ e. c .before .if2 .left (due .due-at .ensures ∙ e)))
+    ∙ sym (left-missing _ (at-end .at) (at-end .k) (recordsAt (due .before .before)) (due .before .loop-test .left) (λ e. c .before .if2 .left (due .due-at .ensures ∙ e)))
     ∙ at-end .inv .left
 
 pub read-spec : {M : Type 1} → statement M
