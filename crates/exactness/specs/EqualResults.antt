@@ -1,7 +1,7 @@
 -- Two results that one contract allows are equal (docs/PROMISES.md, "Theorems"), for each public function. A contract says that
 -- the result is d, or that the result is d and the room is e, with d and e made of the arguments alone, so each line here is an instance of one of two laws.
 -- A part of a text that is shown is a place in memory and its bytes; these are equal, and nothing else of it can be looked at. The two exceptions,
--- which docs/PROMISES.md explains, are functions that fill an array of inner functions' own and leave some of it open (constraints::settle, hexline::is_malformed).
+-- which docs/PROMISES.md explains, are functions that fill an array of inner functions' own and leave some of it open (constraints::settle, hexline::is_malformed, site::line_entry).
 use mathlib.Core.Path.{_≡_, sym, _∙_}
 use mathlib.Core.Bool.{Bool, false}
 use mathlib.Core.List.{List, _++_}
@@ -26,10 +26,11 @@ use Rattle.search.specs.Deciding.{searched-once}
 use Rattle.search.specs.Posed.{Posed, Searched}
 use Rattle.sequence.specs.Holding.{inOrder, Sequenced}
 use Rattle.sequence.specs.Running.{sequenced-room}
+use Rattle.site.specs.declared.Entry.{Entry}
 use Rattle.site.specs.declared.Site.{Site}
 use Rattle.site.specs.declared.Tag.{Tag}
 use Rattle.site.specs.Records.{sameTag, wrongParent}
-use Rattle.site.specs.Table.{entryOf}
+use Rattle.site.specs.Table.{due, entryOf}
 use Rattle.reader.specs.Reading.{readText}
 use Rattle.records.specs.Check.{checked}
 use Rattle.shown.specs.Shown.{lineStart, lineAt, Shown}
@@ -71,7 +72,11 @@ pub record EqualResults : Type 0 where
   pub wide : (x : ℕ) (r₁ r₂ : ℕ) → (r₁ ≡ x) × (r₁ < 256) → (r₂ ≡ x) × (r₂ < 256) → r₁ ≡ r₂
   pub counted : (len : ℕ) → OneResult (min len 64)
   pub «bad_parent» : (i parent : ℕ) → OneResult (wrongParent i parent)
+  pub «due_at» : (k clusters flows : ℕ) → OneResult (due k clusters flows)
   pub «read_line» : (k clusters flows : ℕ) (r : Row) → OneResult (entryOf k clusters flows r)
+  pub «line_entry» : (k clusters flows : ℕ) (r : Row) (r₁ r₂ : Entry) (bytes₁ bytes₂ : List ℕ)
+      → (r₁ ≡ entryOf k clusters flows r) × (malformed 136 r ≡ false → Decoded (r .chars) bytes₁)
+      → (r₂ ≡ entryOf k clusters flows r) × (malformed 136 r ≡ false → Decoded (r .chars) bytes₂) → (r₁ ≡ r₂) × (malformed 136 r ≡ false → bytes₁ ≡ bytes₂)
   pub read : (text : List ℕ) → OneResult (readText text)
   pub check : (s : Site) → OneResult (checked s)
   pub «same_tag» : (a b : Tag) → OneResult (sameTag a b)
@@ -119,7 +124,12 @@ results-are-equal = record {
   wide = λ x r₁ r₂ p q. equal-results x r₁ r₂ (p .0) (q .0);
   counted = λ len. equal-results (min len 64);
   «bad_parent» = λ i parent. equal-results (wrongParent i parent);
+  «due_at» = λ k clusters flows. equal-results (due k clusters flows);
   «read_line» = λ k clusters flows r. equal-results (entryOf k clusters flows r);
+  «line_entry» = λ k clusters flows r r₁ r₂ bytes₁ bytes₂ p q. (
+    equal-results (entryOf k clusters flows r) r₁ r₂ (p .0) (q .0),
+    λ formed. p .1 formed .bytes ∙ sym (q .1 formed .bytes),
+  );
   read = λ text. equal-results (readText text);
   check = λ s. equal-results (checked s);
   «same_tag» = λ a b. equal-results (sameTag a b);
