@@ -29,6 +29,11 @@ fn byte_of(patch: Patch) -> u8 {
     (patch.value % 256) as u8
 }
 
+// What a patch sets a field of two bytes to.
+fn two_bytes_of(patch: Patch) -> u16 {
+    (patch.value % 65536) as u16
+}
+
 // The tag with its length set anew, kind 4, or one of its bytes.
 fn tag_patched(tag: Tag, patch: Patch) -> Tag {
     let mut patched = tag;
@@ -62,8 +67,8 @@ fn flow_patched(flow: Flow, patch: Patch) -> Flow {
     let mut patched = flow;
     let kind = patch.kind;
     match kind {
-        6 => patched.source = byte_of(patch),
-        7 => patched.sink = byte_of(patch),
+        6 => patched.source = two_bytes_of(patch),
+        7 => patched.sink = two_bytes_of(patch),
         8 => patched.period = patch.value,
         _ => patched.deadline = patch.value,
     }

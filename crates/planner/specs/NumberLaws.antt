@@ -63,18 +63,18 @@ module _ (parent : ℕ → ℕ) (n : ℕ) (tree : Tree parent n) where
   pub top-above : (a b : ℕ) → a < n → b < n → Above (top parent a b) b
   top-above a b la lb = above-within (a + b) a b (omega arith) la lb
 
--- a tree's depths at the front of an array, and a flow between the clusters a and b, with the top z of its path
+-- a tree's depths at the front of an array, and a flow between two clusters, with the top z of its path
 module _ (ps levels : List ℕ) (tree : Tree (at ps) (length ps)) (deep : take (length ps) levels ≡ values (depth (at ps)) 0 (length ps)) where
   depth-here : (c : ℕ) → c < length ps → at levels c ≡ depth (at ps) c
   depth-here c l = sym (getD-take (length ps) levels c 0 l) ∙ ap (λ (ds : List ℕ). at ds c) deep ∙ values-at (depth (at ps)) 0 (length ps) c l ∙ ap (depth (at ps)) (omega arith)
 
-  module _ (f : Flow) (a b z : ℕ) (p : a ≡ f .source) (q : b ≡ f .sink) (la : a < length ps) (lb : b < length ps) (r : z ≡ top (at ps) a b) where
-    pub top-here : (z < length ps) × (at levels z ≤ at levels b)
+  module _ (f : Flow) (z : ℕ) (la : f .source < length ps) (lb : f .sink < length ps) (r : z ≡ top (at ps) (f .source) (f .sink)) where
+    pub top-here : (z < length ps) × (at levels z ≤ at levels (f .sink))
     top-here =
-        let above = top-above (at ps) (length ps) tree a b la lb in
+        let above = top-above (at ps) (length ps) tree (f .source) (f .sink) la lb in
         let there : z < length ps = rw r (above .0) in
-        (there, omega (arith, depth-here z there, depth-here b lb, rw (sym r) at (above .1)))
+        (there, omega (arith, depth-here z there, depth-here (f .sink) lb, rw (sym r) at (above .1)))
 
-    pub descent-here : at levels b - at levels z ≡ descentIn ps f
+    pub descent-here : at levels (f .sink) - at levels z ≡ descentIn ps f
     unfolding descentIn
-    descent-here = rw (depth-here b lb, depth-here z (top-here .0), r, p, q)
+    descent-here = rw (depth-here (f .sink) lb, depth-here z (top-here .0), r)

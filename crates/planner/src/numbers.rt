@@ -31,14 +31,15 @@ pub fn figures_of(site: Site, parents: [u8; 64], total: u32) -> Figures
     let mut i: usize = 0;
     while i < flow_count {
         let flow = flows[i];
-        sources[i] = flow.source;
-        sinks[i] = flow.sink;
+        let source = flow.source as usize;
+        let sink = flow.sink as usize;
+        sources[i] = source as u8;
+        sinks[i] = sink as u8;
         deadlines[i] = flow.deadline;
         if flow.period < shortest {
             shortest = flow.period;
         }
-        let sink = wide(flow.sink);
-        let top = tree::top(&parents[..cluster_count], wide(flow.source), sink);
+        let top = tree::top(&parents[..cluster_count], source, sink);
         descents[i] = depths[sink] - depths[top];
         i += 1;
     }

@@ -146,8 +146,8 @@ pub fn read(text: &[u8]) -> Reading
                 deadline,
             } => {
                 let flow = Flow {
-                    source,
-                    sink,
+                    source: source as u16,
+                    sink: sink as u16,
                     period,
                     deadline,
                 };

@@ -59,10 +59,11 @@ fn outside_cluster(c: Cluster) -> bool
 fn outside_flow(f: Flow, clusters: u8) -> bool
     ensures { λ r. ⌜ r ≡ flowOutside clusters f ⌝ }
 {
-    if f.source >= clusters {
+    let count = clusters as u16;
+    if f.source >= count {
         return true;
     }
-    if f.sink >= clusters {
+    if f.sink >= count {
         return true;
     }
     if f.period < 1 {

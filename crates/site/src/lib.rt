@@ -33,10 +33,11 @@ pub struct Cluster {
     pub tag: Tag,
 }
 
-// A flow between two clusters, with its required period and its deadline in symbols.
+// A flow between two clusters, with its required period and its deadline in symbols. The clusters'
+// numbers have two bytes each, so that a flow has no gap and all 128 are cleared as one block.
 pub struct Flow {
-    pub source: u8,
-    pub sink: u8,
+    pub source: u16,
+    pub sink: u16,
     pub period: u32,
     pub deadline: u32,
 }

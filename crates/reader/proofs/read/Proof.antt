@@ -160,6 +160,12 @@ loop-again-2 c =
 enum-known-entry-4 : tie.Need-enum-known-entry-4 Inv-loop2 μ-loop2 Inv-loop μ-loop
 enum-known-entry-4 c = search needs
 
+cast-t56 : tie.Need-cast-t56 Inv-loop2 μ-loop2 Inv-loop μ-loop
+cast-t56 c = search needs
+
+cast-t57 : tie.Need-cast-t57 Inv-loop2 μ-loop2 Inv-loop μ-loop
+cast-t57 c = search needs
+
 sub-j : tie.Need-sub-j Inv-loop2 μ-loop2 Inv-loop μ-loop
 sub-j c = omega (arith, flow-room (c .before))
 
@@ -215,5 +221,5 @@ read-spec =
     add-next add-after enum-known-entry refused-requires returns enum-known-entry-2 loop-less loop-again enum-known-entry-3 tag-of-requires
     print-of-requires sub-i first-alike-requires loop2-holds
     mul-earlier array-copy-out-earlier same-tag-requires refused-requires-2 returns-2 add-j loop2-less loop2-again mul-clusters array-set-from-clusters
-    mul-prints array-write-prints loop-less-2 loop-again-2 enum-known-entry-4 sub-j wide-requires sub-j-2 mul-flows array-set-from-flows loop-less-3 loop-again-3 due-at-requires
+    mul-prints array-write-prints loop-less-2 loop-again-2 enum-known-entry-4 cast-t56 cast-t57 sub-j wide-requires sub-j-2 mul-flows array-set-from-flows loop-less-3 loop-again-3 due-at-requires
     accepted-requires returns-3 refused-requires-3 returns-4)

@@ -9,7 +9,7 @@ use Rattle.model.specs.Relaxing.{depths as depthsOf}
 use Rattle.planner.specs.NumberLaws.{shortest-more, shortest-ends}
 use Rattle.planner.specs.SiteLaws.{counts-bounded, clusters-counted, flows-counted, describes-sound, total-is, numbers-are, descents-are, permits-alike}
 use borrow.Author.Needs.{needs}
-use Rattle.planner.proofs.numbers.figures_of.Proof.Turns.{Inv-loop, μ-loop, zeros, start, site, f, accepted, n-is, f-is, n-bounded, f-bounded, f-whole, parents-fit, parents-number, parents-here, tree, counted, levels-are, was, deep, first, turn, ends-here, ends, top-there, difference}
+use Rattle.planner.proofs.numbers.figures_of.Proof.Turns.{Inv-loop, μ-loop, zeros, start, site, f, accepted, n-is, f-is, n-bounded, f-bounded, f-whole, parents-fit, parents-number, parents-here, tree, counted, levels-are, was, deep, first, turn, ends-here, ends-fit, ends, top-there, difference}
 use Rattle.planner.proofs.numbers.figures_of.Statement.{statement}
 use Rattle.planner.proofs.numbers.figures_of.Tie as tie
 
@@ -42,40 +42,48 @@ unfolding filled
 loop-holds c = (search needs, refl, refl, refl, refl, refl)
 
 mul-flow : tie.Need-mul-flow Inv-loop μ-loop
-mul-flow c = omega (arith, f-bounded (counted (c .before .before .before .before)))
+mul-flow c = omega (arith, f-bounded (first c))
 
 array-copy-out-flow : tie.Need-array-copy-out-flow Inv-loop μ-loop
-array-copy-out-flow c = omega (arith, f-bounded (counted (c .before .before .before .before)))
+array-copy-out-flow c = omega (arith, f-bounded (first c))
+
+cast-source : tie.Need-cast-source Inv-loop μ-loop
+cast-source c = search needs
+
+cast-sink : tie.Need-cast-sink Inv-loop μ-loop
+cast-sink c = search needs
+
+cast-sources : tie.Need-cast-sources Inv-loop μ-loop
+cast-sources c = omega (arith, ends-fit (c .before .before .before) .0)
 
 array-write-sources : tie.Need-array-write-sources Inv-loop μ-loop
-array-write-sources c = omega (arith, f-bounded (counted (c .before .before .before .before .before)))
+array-write-sources c = omega (arith, f-bounded (first (c .before .before .before)))
+
+cast-sinks : tie.Need-cast-sinks Inv-loop μ-loop
+cast-sinks c = omega (arith, ends-fit (c .before .before .before) .1)
 
 array-write-sinks : tie.Need-array-write-sinks Inv-loop μ-loop
-array-write-sinks c = omega (arith, f-bounded (counted (c .before .before .before .before .before)))
+array-write-sinks c = omega (arith, f-bounded (first (c .before .before .before)))
 
 mul-deadlines : tie.Need-mul-deadlines Inv-loop μ-loop
-mul-deadlines c = omega (arith, f-bounded (counted (c .before .before .before .before .before)))
+mul-deadlines c = omega (arith, f-bounded (first (c .before .before .before)))
 
 array-write-deadlines : tie.Need-array-write-deadlines Inv-loop μ-loop
-array-write-deadlines c = omega (arith, f-bounded (counted (c .before .before .before .before .before)))
-
-wide-requires-3 : tie.Need-wide-requires-3 Inv-loop μ-loop
-wide-requires-3 c κs = search needs
+array-write-deadlines c = omega (arith, f-bounded (first (c .before .before .before)))
 
 array-share-prefix-parents-2 : tie.Need-array-share-prefix-parents-2 Inv-loop μ-loop
-array-share-prefix-parents-2 c = parents-fit (counted (c .before .before .before .before .before .before .before .before))
+array-share-prefix-parents-2 c = parents-fit (first (c .before .before .before .before .before))
 
 slice-aggregate-top : tie.Need-slice-aggregate-top Inv-loop μ-loop
-slice-aggregate-top c = sym (parents-number (counted (c .before .before .before .before .before .before .before .before .before)))
-
-wide-requires-4 : tie.Need-wide-requires-4 Inv-loop μ-loop
-wide-requires-4 c κs = search needs
+slice-aggregate-top c = sym (parents-number (first (c .before .before .before .before .before .before)))
 
 top-requires : tie.Need-top-requires Inv-loop μ-loop
-top-requires c κs = (ends-here c .0, ends-here c .1, tree (first c))
+top-requires c κs =
+    let here = c .before .before .before .before .before .before in
+    (ends-here here .0, ends-here here .1, tree (first here))
 
 array-read-descents : tie.Need-array-read-descents Inv-loop μ-loop
-array-read-descents c = omega (arith, ends-here (ends c) .1, parents-number (first (ends c)), n-bounded (first (ends c)))
+array-read-descents c = omega (arith, ends-fit (ends c) .1)
 
 array-read-descents-2 : tie.Need-array-read-descents-2 Inv-loop μ-loop
 array-read-descents-2 c = omega (arith, top-there c .0, parents-number (first (ends c)), n-bounded (first (ends c)))
@@ -96,7 +104,7 @@ loop-again : tie.Need-loop-again Inv-loop μ-loop
 loop-again c =
     let here = ends c in
     let inv = was here .loop .inv in
-    let if1 = c .before .before .before .before .if1 in (
+    let if1 = c .before .before .if1 in (
       search needs,
       filled-next _ _ _ _ _ (inv .1) refl,
       filled-next _ _ _ _ _ (inv .2) refl,
@@ -147,14 +155,16 @@ figures-of-spec =
     loop-holds
     mul-flow
     array-copy-out-flow
+    cast-source
+    cast-sink
+    cast-sources
     array-write-sources
+    cast-sinks
     array-write-sinks
     mul-deadlines
     array-write-deadlines
-    wide-requires-3
     array-share-prefix-parents-2
     slice-aggregate-top
-    wide-requires-4
     top-requires
     array-read-descents
     array-read-descents-2

@@ -101,10 +101,10 @@ module _ (c : tie.After-depths2 Inv-loop μ-loop) where
   levels-front : take (length (parents counted)) levels ≡ values (depth (at (parents counted))) 0 (length (parents counted))
   levels-front = ap (λ (k : ℕ). take k levels) (parents-number counted) ∙ levels-are
 
--- in a turn, once both ends of the flow are known
-module _ (c : tie.After-wide4 Inv-loop μ-loop) where
+-- in a turn: both ends of the flow are clusters
+module _ (c : tie.In-loop Inv-loop μ-loop) where
   abbrev pub was : tie.At-loop Inv-loop μ-loop
-  was = c .before .before .before .before .before .before .before
+  was = c .before
 
   abbrev pub deep : tie.After-depths2 Inv-loop μ-loop
   deep = was .before .before .before
@@ -116,30 +116,26 @@ module _ (c : tie.After-wide4 Inv-loop μ-loop) where
   flow = getD (site first .flows) (was .loop .i) noFlow
 
   pub turn : was .loop .i < f first
-  turn = c .before .before .before .before .before .before .loop-test .taken
+  turn = c .loop-test .taken
 
-  source-is : c .wide4 .result ≡ flow .source
-  source-is = c .wide4 .ensures .0
-
-  sink-is : c .before .before .wide3 .result ≡ flow .sink
-  sink-is = c .before .before .wide3 .ensures .0
-
-  pub ends-here : (c .wide4 .result < length (parents first)) × (c .before .before .wide3 .result < length (parents first))
+  pub ends-here : (flow .source < length (parents first)) × (flow .sink < length (parents first))
   ends-here =
       let ends = ends-there (site first) (accepted first) (was .loop .i) (omega (arith, turn, f-is first)) in
       let number = parents-number first in
-      (omega (arith, source-is, ends .0, number, n-is first), omega (arith, sink-is, ends .1, number, n-is first))
+      (omega (arith, ends .0, number, n-is first), omega (arith, ends .1, number, n-is first))
 
--- and the top of its path
+  pub ends-fit : (flow .source < 64) × (flow .sink < 64)
+  ends-fit =
+      let number = parents-number first in
+      (omega (arith, ends-here .0, number, n-bounded first), omega (arith, ends-here .1, number, n-bounded first))
+
+-- and once the top of its path is known
 module _ (c : tie.After-top Inv-loop μ-loop) where
-  abbrev pub ends : tie.After-wide4 Inv-loop μ-loop
-  ends = c .before
+  abbrev pub ends : tie.In-loop Inv-loop μ-loop
+  ends = c .before .before .before .before .before .before .before
 
-  abbrev sink : ℕ
-  sink = ends .before .before .wide3 .result
+  pub top-there : (c .top .result < length (parents (first ends))) × (at (levels (deep ends)) (c .top .result) ≤ at (levels (deep ends)) (flow ends .sink))
+  top-there = top-here (parents (first ends)) (levels (deep ends)) (tree (first ends)) (levels-front (deep ends)) (flow ends) _ (ends-here ends .0) (ends-here ends .1) (c .top .ensures)
 
-  pub top-there : (c .top .result < length (parents (first ends))) × (at (levels (deep ends)) (c .top .result) ≤ at (levels (deep ends)) sink)
-  top-there = top-here (parents (first ends)) (levels (deep ends)) (tree (first ends)) (levels-front (deep ends)) (flow ends) _ _ _ (source-is ends) (sink-is ends) (ends-here ends .0) (ends-here ends .1) (c .top .ensures)
-
-  pub difference : at (levels (deep ends)) sink - at (levels (deep ends)) (c .top .result) ≡ descentIn (parents (first ends)) (flow ends)
-  difference = descent-here (parents (first ends)) (levels (deep ends)) (tree (first ends)) (levels-front (deep ends)) (flow ends) _ _ _ (source-is ends) (sink-is ends) (ends-here ends .0) (ends-here ends .1) (c .top .ensures)
+  pub difference : at (levels (deep ends)) (flow ends .sink) - at (levels (deep ends)) (c .top .result) ≡ descentIn (parents (first ends)) (flow ends)
+  difference = descent-here (parents (first ends)) (levels (deep ends)) (tree (first ends)) (levels-front (deep ends)) (flow ends) _ (ends-here ends .0) (ends-here ends .1) (c .top .ensures)
