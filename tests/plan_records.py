@@ -85,7 +85,7 @@ def two_faults():
                                    (small, (5, 2), patch("parent", 0), patch("tag length", 0, 1)),
                                    (small, (4, 2), patch("parent", 0), patch("tag length", 0)),
                                    (small, (4, 5), patch("source", 3), patch("sink", 3, 1)),
-                                   (small, (4, 6), patch("sink", 3, 1)),
+                                   (small, (4, 6), patch("sink", 3, 1)), (small, (4, 5), patch("source", 256)),
                                    (small, (4, 1), patch("flow count", 129), order),
                                    (small, (4, 1), patch("cluster count", 0), patch("flow count", 255)),
                                    (P[8], (4, 4), patch("deadline", 0)), (P[4], (4, 6), patch("deadline", 0, 1)),

@@ -20,7 +20,8 @@ def records_refused():
             yield writes(small, (4, 2 + i), patch("tag length", length, i))
         yield writes(small, (4, 2 + i), patch("tag byte", 0x7F, i))
     for j in range(2):
-        for name, value in ("source", 3), ("sink", 255), ("period", 1_000_000_001), ("deadline", 0):
+        for name, value in (("source", 3), ("source", 256), ("sink", 255), ("sink", 65_535), ("period", 1_000_000_001),
+                            ("deadline", 0)):
             yield writes(small, (4, 5 + j), patch(name, value, j))
 
 
