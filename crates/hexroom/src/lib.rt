@@ -9,11 +9,12 @@ ghost use lib.ListN.{length};
 ghost use Rattle.hexline.specs.Digits.{hexOf, hexes, numberBytes, fieldBytes, lineOf};
 ghost use Rattle.hexroom.specs.Room.{put};
 
-// What is added to a value below sixteen to make its digit.
-fn digit_offset(low: u8) -> u8
-    ensures { λ r. ⌜ (r ≡ cond (ltb low 10) 48 55) × (r ≤ 55) ⌝ }
+// How far behind 0-9 the digits of ten and more stand: a choice between 0 and another number is one
+// instruction for a row of bytes.
+fn letter_gap(low: u8) -> u8
+    ensures { λ r. ⌜ (r ≡ cond (ltb low 10) 0 7) × (r ≤ 7) ⌝ }
 {
-    if low < 10 { 48 } else { 55 }
+    if low < 10 { 0 } else { 7 }
 }
 
 // The digit of a value's lowest four bits.
@@ -21,7 +22,7 @@ pub fn hex_of(v: u8) -> u8
     ensures { λ r. ⌜ r ≡ hexOf v ⌝ }
 {
     let low = v % 16;
-    low + digit_offset(low)
+    low + letter_gap(low) + 48
 }
 
 // Writes the two digits of a byte at `at`.
