@@ -9,7 +9,7 @@ use Rattle.model.specs.Relaxing.{depths as depthsOf}
 use Rattle.planner.specs.NumberLaws.{shortest-more, shortest-ends}
 use Rattle.planner.specs.SiteLaws.{counts-bounded, clusters-counted, flows-counted, describes-sound, total-is, numbers-are, descents-are, permits-alike}
 use borrow.Author.Needs.{needs}
-use Rattle.planner.proofs.numbers.figures_of.Proof.Turns.{Inv-loop, μ-loop, zeros, start, site, f, accepted, n-is, f-is, n-bounded, f-bounded, f-whole, parents-fit, parents-number, parents-here, tree, counted, levels-are, was, deep, first, turn, ends-here, ends-fit, ends, top-there, difference}
+use Rattle.planner.proofs.numbers.figures_of.Proof.Turns.{Inv-loop, μ-loop, zeros, start, site, f, accepted, n-is, f-is, n-bounded, f-bounded, f-whole, parents-fit, parents-number, parents-here, tree, counted, levels-are, was, first, running, ends-here, ends-fit, turn, top-there, difference}
 use Rattle.planner.proofs.numbers.figures_of.Statement.{statement}
 use Rattle.planner.proofs.numbers.figures_of.Tie as tie
 
@@ -83,16 +83,16 @@ top-requires c κs =
     (ends-here here .0, ends-here here .1, tree (first here))
 
 array-read-descents : tie.Need-array-read-descents Inv-loop μ-loop
-array-read-descents c = omega (arith, ends-fit (ends c) .1)
+array-read-descents c = omega (arith, ends-fit (turn c) .1)
 
 array-read-descents-2 : tie.Need-array-read-descents-2 Inv-loop μ-loop
-array-read-descents-2 c = omega (arith, top-there c .0, parents-number (first (ends c)), n-bounded (first (ends c)))
+array-read-descents-2 c = omega (arith, top-there c .0, parents-number (first (turn c)), n-bounded (first (turn c)))
 
 sub-descents : tie.Need-sub-descents Inv-loop μ-loop
 sub-descents c = omega (arith, top-there c .1)
 
 array-write-descents : tie.Need-array-write-descents Inv-loop μ-loop
-array-write-descents c = omega (arith, turn (ends c), f-bounded (first (ends c)))
+array-write-descents c = omega (arith, running (turn c), f-bounded (first (turn c)))
 
 add-i : tie.Need-add-i Inv-loop μ-loop
 add-i c = search needs
@@ -102,7 +102,7 @@ loop-less c = search needs
 
 loop-again : tie.Need-loop-again Inv-loop μ-loop
 loop-again c =
-    let here = ends c in
+    let here = turn c in
     let inv = was here .loop .inv in
     let if1 = c .before .before .if1 in (
       search needs,
@@ -110,7 +110,7 @@ loop-again c =
       filled-next _ _ _ _ _ (inv .2) refl,
       filled-next _ _ _ _ _ (inv .3) refl,
       filled-next _ _ _ _ _ (inv .4) (difference c),
-      shortest-more (site (first here) .flows) (f (first here)) (was here .loop .i) (was here .loop .shortest) (turn here) (f-whole (first here)) (if1 .shortest) (⊎-elim (λ w. omega arith) (λ w. omega arith) (if1 .came)) ∙ inv .5,
+      shortest-more (site (first here) .flows) (f (first here)) (was here .loop .i) (was here .loop .shortest) (running here) (f-whole (first here)) (if1 .shortest) (⊎-elim (λ w. omega arith) (λ w. omega arith) (if1 .came)) ∙ inv .5,
     )
 
 returns : tie.Need-returns Inv-loop μ-loop

@@ -106,7 +106,7 @@ module _ (c : tie.In-loop Inv-loop μ-loop) where
   abbrev pub was : tie.At-loop Inv-loop μ-loop
   was = c .before
 
-  abbrev pub deep : tie.After-depths2 Inv-loop μ-loop
+  abbrev deep : tie.After-depths2 Inv-loop μ-loop
   deep = was .before .before .before
 
   abbrev pub first : tie.After-wide2 Inv-loop μ-loop
@@ -115,12 +115,12 @@ module _ (c : tie.In-loop Inv-loop μ-loop) where
   abbrev flow : Flow
   flow = getD (site first .flows) (was .loop .i) noFlow
 
-  pub turn : was .loop .i < f first
-  turn = c .loop-test .taken
+  pub running : was .loop .i < f first
+  running = c .loop-test .taken
 
   pub ends-here : (flow .source < length (parents first)) × (flow .sink < length (parents first))
   ends-here =
-      let ends = ends-there (site first) (accepted first) (was .loop .i) (omega (arith, turn, f-is first)) in
+      let ends = ends-there (site first) (accepted first) (was .loop .i) (omega (arith, running, f-is first)) in
       let number = parents-number first in
       (omega (arith, ends .0, number, n-is first), omega (arith, ends .1, number, n-is first))
 
@@ -131,11 +131,11 @@ module _ (c : tie.In-loop Inv-loop μ-loop) where
 
 -- and once the top of its path is known
 module _ (c : tie.After-top Inv-loop μ-loop) where
-  abbrev pub ends : tie.In-loop Inv-loop μ-loop
-  ends = c .before .before .before .before .before .before .before
+  abbrev pub turn : tie.In-loop Inv-loop μ-loop
+  turn = c .before .before .before .before .before .before .before
 
-  pub top-there : (c .top .result < length (parents (first ends))) × (at (levels (deep ends)) (c .top .result) ≤ at (levels (deep ends)) (flow ends .sink))
-  top-there = top-here (parents (first ends)) (levels (deep ends)) (tree (first ends)) (levels-front (deep ends)) (flow ends) _ (ends-here ends .0) (ends-here ends .1) (c .top .ensures)
+  pub top-there : (c .top .result < length (parents (first turn))) × (at (levels (deep turn)) (c .top .result) ≤ at (levels (deep turn)) (flow turn .sink))
+  top-there = top-here (parents (first turn)) (levels (deep turn)) (tree (first turn)) (levels-front (deep turn)) (flow turn) _ (ends-here turn .0) (ends-here turn .1) (c .top .ensures)
 
-  pub difference : at (levels (deep ends)) (flow ends .sink) - at (levels (deep ends)) (c .top .result) ≡ descentIn (parents (first ends)) (flow ends)
-  difference = descent-here (parents (first ends)) (levels (deep ends)) (tree (first ends)) (levels-front (deep ends)) (flow ends) _ (ends-here ends .0) (ends-here ends .1) (c .top .ensures)
+  pub difference : at (levels (deep turn)) (flow turn .sink) - at (levels (deep turn)) (c .top .result) ≡ descentIn (parents (first turn)) (flow turn)
+  difference = descent-here (parents (first turn)) (levels (deep turn)) (tree (first turn)) (levels-front (deep turn)) (flow turn) _ (ends-here turn .0) (ends-here turn .1) (c .top .ensures)
