@@ -14,7 +14,6 @@ use Rattle.hexline.specs.Loops.{decide}
 use Rattle.shown.specs.Shown.{lineStart, lineAt, Shown}
 use Rattle.shown.specs.ShownLaws.{start-fits, line-is-row, line-there, line-missing}
 use Rattle.site.specs.declared.Site.{Site}
-use Rattle.site.specs.declared.Verdict.{Verdict}
 use Rattle.site.specs.declared.Verdict.the-variants.{Accepted, Refused}
 use Rattle.site.specs.Records.{noSite}
 use Rattle.site.specs.Table.{due}

@@ -3,7 +3,6 @@
 -- 9 exactly if some has and the room is shorter, 8 exactly if the portions fit a permitted order and no permitted order has a placing, and 7 exactly if they fit none.
 -- A plan is the published one, its starts are a placing at its order, and no larger permitted order has any. A refusal leaves the room as it was.
 use mathlib.Core.Path.{_≡_, refl, sym, ap, _∙_, subst}
-use mathlib.Core.Bool.{true, false}
 use mathlib.Core.List.{List, _++_}
 use mathlib.Core.Logic.{_↔_, _⊎_, inl, inr}
 use Prim.Native.Nat.{ℕ, suc, _≤_, _<_}

@@ -1,7 +1,7 @@
 -- The number of `cartheron_rewrite` is exact, for any text and any room (docs/FORMATS.md, "The program and the C functions"): it is below 65,536 exactly if the text reads and
 -- the room is as long as it. The room then begins with that same text. It is 65,536 x 9 exactly if the text reads and the room is shorter, and 65,536 x m + k for an m
 -- from 1 to 6 exactly if the reader refuses by m at line k.
-use mathlib.Core.Path.{_≡_, refl, sym, _∙_}
+use mathlib.Core.Path.{_≡_, refl}
 use mathlib.Core.List.{List, _++_}
 use mathlib.Core.Logic.{_↔_, inl, inr}
 use Prim.Native.Nat.{ℕ, _+_, _*_, _≤_, _<_}
@@ -15,7 +15,7 @@ use Rattle.site.specs.declared.Site.{Site}
 use Rattle.site.specs.declared.Verdict.{Verdict}
 use Rattle.site.specs.declared.Verdict.the-variants.{Accepted, Refused}
 use Rattle.reader.specs.Reading.{readText}
-use Rattle.writer.specs.Text.{textOf, written, roomAfter as writtenRoom}
+use Rattle.writer.specs.Text.{written, roomAfter as writtenRoom}
 use Rattle.commission.specs.Numbers.{rewriteNumber, rewriteRoom}
 use Rattle.roundtrip.specs.LongestSite.{longest-site}
 use Rattle.roundtrip.specs.WriteOfRead.{write-of-read}

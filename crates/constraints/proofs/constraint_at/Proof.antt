@@ -1,9 +1,8 @@
 -- `constraints::constraint_at` meets its contract. Each of its three ends gives the entry that the laws of the list say stands at the place: a flow's, and
 -- behind those of the flows one up the tree, and behind these one down.
 use mathlib.Core.Path.{sym}
-use Prim.Native.Nat.{ℕ, _+_, _-_}
+use Prim.Native.Nat.{ℕ, _-_}
 use native.Mathlib.Omega.{arith}
-use lib.ListN.{length}
 use mir.Syntax.{w8, w32}
 use mir.Val.{Fits}
 use Rattle.constraints.specs.EntryLaws.{site-flow, site-up, site-down}

@@ -1,6 +1,5 @@
 -- `demands::clients::read_one_line` meets its contract: what the line reader's answer says is `line-answer`.
 use mathlib.Core.Path.{ap, _∙_}
-use Rattle.site.specs.declared.Entry.{Entry}
 use Rattle.site.specs.Answers.{entrySays}
 use Rattle.site.specs.LineAnswers.{line-answer}
 use borrow.Author.Needs.{needs}

@@ -6,14 +6,11 @@ use native.Mathlib.Omega.{arith}
 use lib.ListN.{length}
 use lib.Seq.{length-take-le}
 use Rattle.site.specs.declared.Site.{Site}
-use Rattle.site.specs.declared.Verdict.the-variants.{Accepted, Refused}
 use Rattle.reader.specs.declared.Reading.{Reading}
 use Rattle.reader.specs.Reading.{accepted, refused}
-use Rattle.records.specs.Check.{checked}
 use Rattle.records.specs.CheckNumbers.{ByRecords, check-by-records}
 use Rattle.writer.specs.declared.Written.{Written}
 use Rattle.writer.specs.declared.Written.the-variants.{Length, Refused as RefusedWriting}
-use Rattle.writer.specs.Text.{textOf}
 use Rattle.roundtrip.specs.Kept.{kept}
 use Rattle.roundtrip.specs.WriterExact.{ExactWriting}
 use Rattle.demands.specs.Demands.{BackAgain}
