@@ -1,7 +1,7 @@
 -- Two results that one contract allows are equal (docs/PROMISES.md, "Theorems"), for each public function. A contract says that
 -- the result is d, or that the result is d and the room is e, with d and e made of the arguments alone, so each line here is an instance of one of two laws.
 -- A part of a text that is shown is a place in memory and its bytes; these are equal, and nothing else of it can be looked at. The two exceptions,
--- which docs/PROMISES.md explains, are functions that fill an array of inner functions' own and leave some of it open (constraints::settle, hexline::is_malformed, site::line_entry).
+-- which docs/PROMISES.md explains, are functions that fill an array of inner functions' own and leave some of it open (constraints::settle, hexbytes::is_malformed, site::line_entry).
 use mathlib.Core.Path.{_≡_, sym, _∙_}
 use mathlib.Core.Bool.{Bool, false}
 use mathlib.Core.List.{List, _++_}
@@ -10,7 +10,7 @@ use lib.ListN.{length, drop, replicate}
 use denote.Ref.{RefT, ptr, now}
 use Rattle.hexline.specs.Digits.{isDigit, digit, hexOf, byteAt, numberAt, hexes, numberBytes, fieldBytes, lineOf}
 use Rattle.hexline.specs.Loops.{filled}
-use Rattle.hexline.specs.Decoded.{Decoded}
+use Rattle.hexbytes.specs.Decoded.{Decoded}
 use Rattle.hexline.specs.Lines.{Row, lineLength, malformed}
 use Rattle.hexroom.specs.Room.{put}
 use Rattle.model.specs.declared.Order.{Order}

@@ -9,8 +9,8 @@ use lib.ListN.{length, getD, replicate, length-replicate, getD-replicate}
 use lib.Seq.{ext-getD}
 use borrow.Author.Tests.{ltb-true, ltb-false}
 use Rattle.hexline.specs.Loops.{decide, filled, filled-at, filled-behind, filled-length}
-use Rattle.hexline.specs.Decoded.{Decoded}
-use Rattle.hexline.specs.DecodeLaws.{decoded-at}
+use Rattle.hexbytes.specs.Decoded.{Decoded}
+use Rattle.hexbytes.specs.DecodeLaws.{decoded-at}
 use Rattle.hexline.specs.Digits.{byteAt}
 use Rattle.site.specs.declared.Tag.{Tag}
 use Rattle.site.specs.Lines.{tagAt}

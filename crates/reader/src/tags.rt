@@ -3,7 +3,7 @@ use site::Tag;
 ghost use mathlib.Core.Path.{_≡_};
 ghost use Prim.Native.Nat.{_+_, _/_};
 ghost use lib.ListN.{length};
-ghost use Rattle.hexline.specs.Decoded.{Decoded};
+ghost use Rattle.hexbytes.specs.Decoded.{Decoded};
 ghost use Rattle.site.specs.Lines.{tagAt};
 ghost use Rattle.reader.specs.Prints.{tagBytes};
 

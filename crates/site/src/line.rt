@@ -11,7 +11,7 @@ ghost use mathlib.Core.Path.{_≡_};
 ghost use mathlib.Core.Bool.{false};
 ghost use Prim.Native.Nat.{_+_, _*_, _≤_, _<_};
 ghost use lib.ListN.{length, replicate};
-ghost use Rattle.hexline.specs.Decoded.{Decoded};
+ghost use Rattle.hexbytes.specs.Decoded.{Decoded};
 ghost use Rattle.hexline.specs.Digits.{numberAt};
 ghost use Rattle.hexline.specs.Lines.{malformed};
 ghost use Rattle.site.specs.Lines.{printableLine};
@@ -45,7 +45,7 @@ fn printable_line(line: &[u8], bytes: &[u8; 68], len: u8) -> bool
     let mut all = true;
     let mut i: usize = 0;
     while i < n {
-        let b = hexline::byte_of(line, bytes, 4 + i);
+        let b = hexbytes::byte_of(line, bytes, 4 + i);
         all = all & ((33 <= b) & (b <= 126));
         i += 1;
     }
@@ -63,12 +63,12 @@ fn time_of(line: &[u8], bytes: &[u8; 68], k: usize) -> u32
     requires { ⌜ (Decoded (now line) (now bytes)) × (2 * (k + 4) ≤ length (now line)) ⌝ }
     ensures { λ r. ⌜ r ≡ numberAt (now (line .entry)) k 4 ⌝ }
 {
-    ((value_of(hexline::byte_of(line, bytes, k)) * 256
-        + value_of(hexline::byte_of(line, bytes, k + 1)))
+    ((value_of(hexbytes::byte_of(line, bytes, k)) * 256
+        + value_of(hexbytes::byte_of(line, bytes, k + 1)))
         * 256
-        + value_of(hexline::byte_of(line, bytes, k + 2)))
+        + value_of(hexbytes::byte_of(line, bytes, k + 2)))
         * 256
-        + value_of(hexline::byte_of(line, bytes, k + 3))
+        + value_of(hexbytes::byte_of(line, bytes, k + 3))
 }
 
 // Whether the parent of cluster i is wrong: the root's is 255, another's is a lower number.
@@ -89,17 +89,17 @@ fn header_line(line: &[u8], bytes: &[u8; 68], k: usize) -> Entry
     if line.len() / 2 != 4 {
         return Entry::Refused { number: 3, line: k };
     }
-    if hexline::byte_of(line, bytes, 1) != 1 {
+    if hexbytes::byte_of(line, bytes, 1) != 1 {
         return Entry::Refused { number: 4, line: k };
     }
-    let clusters = hexline::byte_of(line, bytes, 2);
+    let clusters = hexbytes::byte_of(line, bytes, 2);
     if clusters < 1 {
         return Entry::Refused { number: 4, line: k };
     }
     if clusters > MOST_CLUSTERS {
         return Entry::Refused { number: 4, line: k };
     }
-    let flows = hexline::byte_of(line, bytes, 3);
+    let flows = hexbytes::byte_of(line, bytes, 3);
     if flows > MOST_FLOWS {
         return Entry::Refused { number: 4, line: k };
     }
@@ -113,11 +113,11 @@ fn cluster_line(line: &[u8], bytes: &[u8; 68], k: usize) -> Entry
     if line.len() < 8 {
         return Entry::Refused { number: 3, line: k };
     }
-    let len = hexline::byte_of(line, bytes, 3);
+    let len = hexbytes::byte_of(line, bytes, 3);
     if line.len() / 2 != 4 + wide(len) {
         return Entry::Refused { number: 3, line: k };
     }
-    let order = hexline::byte_of(line, bytes, 2);
+    let order = hexbytes::byte_of(line, bytes, 2);
     if order > Order::LARGEST {
         return Entry::Refused { number: 4, line: k };
     }
@@ -130,7 +130,7 @@ fn cluster_line(line: &[u8], bytes: &[u8; 68], k: usize) -> Entry
     if !printable_line(line, bytes, len) {
         return Entry::Refused { number: 4, line: k };
     }
-    let parent = hexline::byte_of(line, bytes, 1);
+    let parent = hexbytes::byte_of(line, bytes, 1);
     if bad_parent(k - 2, parent) {
         return Entry::Refused { number: 5, line: k };
     }
@@ -149,11 +149,11 @@ fn flow_line(line: &[u8], bytes: &[u8; 68], k: usize, clusters: u8) -> Entry
     if line.len() / 2 != 11 {
         return Entry::Refused { number: 3, line: k };
     }
-    let source = hexline::byte_of(line, bytes, 1);
+    let source = hexbytes::byte_of(line, bytes, 1);
     if source >= clusters {
         return Entry::Refused { number: 4, line: k };
     }
-    let sink = hexline::byte_of(line, bytes, 2);
+    let sink = hexbytes::byte_of(line, bytes, 2);
     if sink >= clusters {
         return Entry::Refused { number: 4, line: k };
     }
@@ -193,14 +193,14 @@ pub fn line_entry(
     requires { ⌜ now bytes ≡ replicate 68 0 ⌝ }
     ensures { λ r. ⌜ (r ≡ entryOf k clusters flows (record { chars = now (line .entry); ended = ended })) × (malformed 136 (record { chars = now (line .entry); ended = ended }) ≡ false → Decoded (now (line .entry)) (now (bytes .exit))) ⌝ }
 {
-    if hexline::is_malformed(line, ended, MOST_DIGITS, bytes) {
+    if hexbytes::is_malformed(line, ended, MOST_DIGITS, bytes) {
         return Entry::Refused { number: 1, line: k };
     }
     let kind = due_at(k, clusters, flows);
     if kind == 0 {
         return Entry::Refused { number: 2, line: k };
     }
-    if hexline::byte_of(line, bytes, 0) != kind {
+    if hexbytes::byte_of(line, bytes, 0) != kind {
         return Entry::Refused { number: 2, line: k };
     }
     if kind == 1 {

@@ -3,7 +3,7 @@
 use mathlib.Core.Path.{_≡_, sym, _∙_}
 use mathlib.Core.Bool.{false, true≢false}
 use native.Mathlib.Omega.{arith}
-use Rattle.hexline.specs.Decoded.{Decoded}
+use Rattle.hexbytes.specs.Decoded.{Decoded}
 use Rattle.hexline.specs.Lines.{Row, malformed}
 use Rattle.hexline.specs.LineLaws.{well-formed}
 use Rattle.site.specs.TableLaws.{due-cluster, due-flow, entry-malformed, entry-none-due, entry-other-kind, entry-fields, header-alone, cluster-alone}
