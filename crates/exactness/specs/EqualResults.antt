@@ -1,12 +1,12 @@
 -- Two results that one contract allows are equal (docs/PROMISES.md, "Theorems"), for each public function. A contract says that
 -- the result is d, or that the result is d and the room is e, with d and e made of the arguments alone, so each line here is an instance of one of two laws.
--- A part of a text that is shown is a place in memory and its bytes; these are equal, and nothing else of it can be looked at. The two exceptions,
--- which docs/PROMISES.md explains, are functions that fill an array of inner functions' own and leave some of it open (constraints::settle, hexbytes::is_malformed, site::line_entry).
+-- A part of a text that is shown is a place in memory and its bytes; these are equal, and nothing else of it can be looked at. The three exceptions,
+-- which docs/PROMISES.md explains, are functions that fill an array of inner functions' own and leave some of it open (relaxing::settle, hexbytes::is_malformed, site::line_entry).
 use mathlib.Core.Path.{_≡_, sym, _∙_}
 use mathlib.Core.Bool.{Bool, false}
 use mathlib.Core.List.{List, _++_}
 use Prim.Native.Nat.{ℕ, _+_, _*_, _/_, _<_, min}
-use lib.ListN.{length, drop, replicate}
+use lib.ListN.{length, getD, drop, replicate}
 use denote.Ref.{RefT, ptr, now}
 use Rattle.hexline.specs.Digits.{isDigit, digit, hexOf, byteAt, numberAt, hexes, numberBytes, fieldBytes, lineOf}
 use Rattle.hexline.specs.Loops.{filled}
@@ -18,7 +18,7 @@ use Rattle.model.specs.Counting.{at as numberIn, values}
 use Rattle.model.specs.Orders.{portion, interval, lengthAt, permitted}
 use Rattle.model.specs.Plans.{plan as planOf}
 use Rattle.model.specs.Trees.{depth, top as topOf}
-use Rattle.constraints.specs.Entries.{limitsOf}
+use Rattle.constraints.specs.Entries.{blank, siteEntries, limitsOf}
 use Rattle.model.specs.Sites as model
 use Rattle.search.specs.declared.Figures.{Figures}
 use Rattle.search.specs.declared.Found.{Found}
@@ -82,10 +82,11 @@ pub record EqualResults : Type 0 where
   pub «same_tag» : (a b : Tag) → OneResult (sameTag a b)
   pub «line_start» : (text : List ℕ) (k : ℕ) → OneResult (lineStart text k)
   pub «line_at» : (text part₁ part₂ : RefT (List ℕ)) (k : ℕ) → Shown text part₁ k → Shown text part₂ k → (ptr part₁ ≡ ptr part₂) × (now part₁ ≡ now part₂)
-  -- the tree, the flows' limits and the clusters in order of start
+  -- the tree, the flows' limits, the constraints and the clusters in order of start
   pub depths : (parents : List ℕ) → OneResult (values (depth (numberIn parents)) 0 (length parents))
   pub top : (parents : List ℕ) (a b : ℕ) → OneResult (topOf (numberIn parents) a b)
   pub «limit_flows» : (descents deadlines : List ℕ) (interval : ℕ) → OneResult (limitsOf descents deadlines interval)
+  pub «constraint_at» : (place : ℕ) (parents sources sinks limits : List ℕ) → OneResult (getD (siteEntries parents sources sinks limits) place blank)
   pub sequence : (size : ℕ) (parent N : ℕ → ℕ) (room room₁ room₂ : List ℕ) (r₁ r₂ : ℕ) → Sequenced size parent N room room₁ r₁ → Sequenced size parent N room room₂ r₂ → (r₁ ≡ r₂) × (room₁ ≡ room₂)
   pub search : (figures : Figures) (before counts₁ counts₂ : List ℕ) (r₁ r₂ : Found) → ((s : model.Site) × Posed s figures)
       → ((s : model.Site) → Posed s figures → Searched s r₁ before counts₁) → ((s : model.Site) → Posed s figures → Searched s r₂ before counts₂) → (r₁ ≡ r₂) × (counts₁ ≡ counts₂)
@@ -139,6 +140,7 @@ results-are-equal = record {
   depths = λ parents. equal-results (values (depth (numberIn parents)) 0 (length parents));
   top = λ parents a b. equal-results (topOf (numberIn parents) a b);
   «limit_flows» = λ descents deadlines interval. equal-results (limitsOf descents deadlines interval);
+  «constraint_at» = λ place parents sources sinks limits. equal-results (getD (siteEntries parents sources sinks limits) place blank);
   sequence = λ size parent N room room₁ room₂ r₁ r₂ p q. let placed = inOrder size parent N in
       equal-results-in-room (length placed) (placed ++ drop (length placed) room) r₁ r₂ room₁ room₂ (p .number, sequenced-room size parent N room room₁ r₁ p) (q .number, sequenced-room size parent N room room₂ r₂ q);
   search = λ figures before counts₁ counts₂ r₁ r₂ w p q. searched-once (w .0) (p (w .0) (w .1)) (q (w .0) (w .1));

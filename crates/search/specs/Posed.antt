@@ -13,8 +13,8 @@ use Rattle.model.specs.Plans.{Outcome, planned, noFit, noPlacing, plan}
 use Rattle.model.specs.Relaxing.{depths, solve}
 use Rattle.model.specs.Sequences.{sequence}
 use Rattle.model.specs.Sites.{Site, size, portionOf, periods, Sound}
-use Rattle.constraints.specs.declared.Settling.{Settling}
-use Rattle.constraints.specs.Steps.{settledAs}
+use Rattle.relaxing.specs.declared.Settling.{Settling}
+use Rattle.relaxing.specs.Steps.{settledAs}
 use Rattle.search.specs.declared.Figures.{Figures}
 use Rattle.search.specs.declared.Found.{Found}
 use Rattle.search.specs.declared.Found.the-variants.{Order, NoFit, NoPlacing}

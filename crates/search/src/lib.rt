@@ -1,7 +1,7 @@
 // The search for the order (docs/FORMATS.md, "The plan that is returned"): the largest permitted
 // one at which the portions fit and the constraints have a solution.
-use constraints::Settling;
 use model::Order;
+use relaxing::Settling;
 ghost use mathlib.Core.Path.{_≡_};
 ghost use Prim.Native.Nat.{_≤_};
 ghost use lib.ListN.{length};
@@ -92,7 +92,7 @@ fn probe(order: Order, figures: Figures, counts: &mut [u8]) -> Settling
     let sources = figures.sources;
     let sinks = figures.sinks;
     let mut trial = figures.depths;
-    let settling = constraints::settle(
+    let settling = relaxing::settle(
         &parents[..clusters],
         &sources[..flows],
         &sinks[..flows],

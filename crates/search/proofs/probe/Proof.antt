@@ -10,9 +10,9 @@ use Rattle.model.specs.Orders.{interval}
 use Rattle.model.specs.OrderLaws.{order-has-length}
 use Rattle.model.specs.Relaxing.{solve}
 use Rattle.model.specs.Sites.{Site}
-use Rattle.constraints.specs.declared.Settling.{Settling}
 use Rattle.constraints.specs.Entries.{limitsOf}
-use Rattle.constraints.specs.Steps.{settledAs}
+use Rattle.relaxing.specs.declared.Settling.{Settling}
+use Rattle.relaxing.specs.Steps.{settledAs}
 use Rattle.search.specs.declared.Figures.{Figures}
 use Rattle.search.specs.Monotone.{interval-positive}
 use Rattle.search.specs.Posed.{Posed, countsAfter}

@@ -9,7 +9,7 @@ use native.Mathlib.Omega.{arith}
 use lib.ListN.{length}
 use Rattle.model.specs.Relaxing.{solve}
 use Rattle.model.specs.Sites.{Site}
-use Rattle.constraints.specs.Steps.{settledAs}
+use Rattle.relaxing.specs.Steps.{settledAs}
 use Rattle.search.specs.Deciding.{order-solved, order-unsolved}
 use Rattle.search.specs.Posed.{Posed, countsAfter, Parted}
 use borrow.Author.Needs.{needs}

@@ -14,13 +14,13 @@ use lib.WfN.{Nat·lt-wfRel}
 use Rattle.model.specs.Constraints.{Constraint}
 use Rattle.model.specs.Relaxing.{settledWithin}
 use Rattle.model.specs.RelaxingLaws.{Midway, midway-start, midway-keeps, midway-lowers, midway-refuses, unchanged-settles, changed-goes-on}
 use Rattle.constraints.specs.declared.Constraint.{Constraint as Entry}
-use Rattle.constraints.specs.declared.Settling.{Settling}
-use Rattle.constraints.specs.declared.Settling.the-variants.{Settled, NegativeLoop}
-use Rattle.constraints.specs.declared.Step.the-variants.{Obeyed, Lowered, BelowZero}
 use Rattle.constraints.specs.Entries.{blank, meaning}
-use Rattle.constraints.specs.StepLaws.{Tells}
-use Rattle.constraints.specs.Steps.{settledAs}
+use Rattle.relaxing.specs.declared.Settling.{Settling}
+use Rattle.relaxing.specs.declared.Settling.the-variants.{Settled, NegativeLoop}
+use Rattle.relaxing.specs.declared.Step.the-variants.{Obeyed, Lowered, BelowZero}
+use Rattle.relaxing.specs.StepLaws.{Tells}
+use Rattle.relaxing.specs.Steps.{settledAs}
 
 -- ## The machine's tests and numbers
 

@@ -12,11 +12,11 @@ use Rattle.model.specs.Counting.{Each}
 use Rattle.model.specs.CountingLaws.{passes-or-fails}
 use Rattle.model.specs.Relaxing.{okay, relax}
 use Rattle.model.specs.RelaxingLaws.{relax-keeps}
 use Rattle.constraints.specs.declared.Constraint.{Constraint as Entry}
-use Rattle.constraints.specs.declared.Step.{Step}
-use Rattle.constraints.specs.declared.Step.the-variants.{Obeyed, Lowered, BelowZero}
 use Rattle.constraints.specs.Entries.{blank, meaning}
-use Rattle.constraints.specs.Steps.{outcome, lowered}
+use Rattle.relaxing.specs.declared.Step.{Step}
+use Rattle.relaxing.specs.declared.Step.the-variants.{Obeyed, Lowered, BelowZero}
+use Rattle.relaxing.specs.Steps.{outcome, lowered}
 
 -- the distances e after a step at d, and its outcome r
 abbrev pub Stepped : Entry → List ℕ → Step → List ℕ → Type 0

@@ -1,4 +1,4 @@
--- `constraints::fill` meets its contract: a walk of its MIR, by hand, with a loop. The invariant (`Proof/Progress.antt`): the entries before `place` are stored, and the list is as it was from there on.
+-- `relaxing::fill` meets its contract: a walk of its MIR, by hand, with a loop. The invariant (`Proof/Progress.antt`): the entries before `place` are stored, and the list is as it was from there on.
 -- The borrow of the list is opened once, before the loop, and closed once, after it. In a turn `constraint_at` is called over copies of the four shared slices, with their tokens, which come back, and gives the entry that is stored.
 use mathlib.Core.Path.{_≡_, refl, sym, ap, subst}
 use mathlib.Core.Bool.{Bool}
@@ -49,21 +49,21 @@ use denote.Triple.Clauses.{ensured, lasts}
 use denote.Triple.Table.{entered, cited}
 use denote.Triple.Walked.{says, needs, Stays, stay-slice, stay-none-slice, walkOf, goes-slice, goes-none-slice, Walks, ends-at, walked, walk-meets}
 use denote.Exit.{yes}
 use Rattle.constraints.specs.Entries.{blank, siteEntries}
 use Rattle.constraints.specs.declared.Constraint.{Constraint as Entry}
 use Rattle.constraints.proofs.Constraint as entry
 use Rattle.constraints.proofs.Constraint.Laws as entry-laws
 use Rattle.constraints.proofs.constraint_at as constraint-at
 use Rattle.constraints.proofs.constraint_at.Symbol as constraint-at-def
 use Rattle.constraints.proofs.constraint_at.Symbol.{name as #constraints·constraint-at}
 use Rattle.constraints.proofs.constraint_at.Met as constraint-at-thm
-use Rattle.constraints.proofs.fill.Key.{name as #constraints·fill}
-use Rattle.constraints.proofs.fill as fill
-use Rattle.constraints.proofs.fill.Statement as stated
-use Rattle.constraints.proofs.fill.Code as code
-use Rattle.constraints.proofs.fill.Code.Mir as code-mir
-use Rattle.constraints.proofs.fill.Proof.Progress.{count, Asked, Filled, Stage, Nearer, Nearer-wf, nearer, filled-none, filled-next, filled-all, count-fits, tree-fits, children-fit}
-use Rattle.constraints.proofs.Sizes.{bytes, place-fits}
+use Rattle.relaxing.proofs.fill.Key.{name as #relaxing·fill}
+use Rattle.relaxing.proofs.fill as fill
+use Rattle.relaxing.proofs.fill.Statement as stated
+use Rattle.relaxing.proofs.fill.Code as code
+use Rattle.relaxing.proofs.fill.Code.Mir as code-mir
+use Rattle.relaxing.proofs.fill.Proof.Progress.{count, Asked, Filled, Stage, Nearer, Nearer-wf, nearer, filled-none, filled-next, filled-all, count-fits, tree-fits, children-fit}
+use Rattle.relaxing.proofs.Sizes.{bytes, place-fits}
 mod Progress
 
 -- what the function still has of its parameters when it returns: all five
@@ -293,6 +293,6 @@ pub fill-spec : {M : Type 1} → stated.statement M
 unfolding code.routine tablesOf
 fill-spec 𝓤 H 𝓜 𝓖 𝓡 =
     entered 𝓤 H (tripleOf 𝓤 H (𝓖 .A) fill.signature (fill.spec 𝓤 H (𝓖 .A) (𝓜 .mem) (𝓡 .run)))
-    (tables 𝓤 H 𝓜 𝓡 code.env .C) (tables 𝓤 H 𝓜 𝓡 code.env .Λ) #constraints·fill code.function (code.unfolded 𝓤 H 𝓜 𝓡)
+    (tables 𝓤 H 𝓜 𝓡 code.env .C) (tables 𝓤 H 𝓜 𝓡 code.env .Λ) #relaxing·fill code.function (code.unfolded 𝓤 H 𝓜 𝓡)
     (fill-meets 𝓤 H (𝓖 .A) (givenOf 𝓤 H 𝓜 𝓖) (𝓜 .mem) (𝓡 .run) (tablesOf 𝓤 H 𝓜 (tables 𝓤 H 𝓜 𝓡 code.env))
     (cited 𝓤 H (ConstraintAt 𝓤 H (𝓖 .A) (𝓜 .mem) (𝓡 .run)) 𝓜 𝓡 code.env #constraints·constraint-at constraint-at-def.routine code.calls-constraints·constraint-at (constraint-at-thm.met 𝓤 H 𝓜 𝓖 𝓡)))

@@ -1,14 +1,14 @@
--- `constraints::lower` meets its contract: its two tests are the model's, behind the bias, so each way out is one of the three outcomes of a step.
+-- `relaxing::lower` meets its contract: its two tests are the model's, behind the bias, so each way out is one of the three outcomes of a step.
 use mathlib.Core.List.{List}
 use Prim.Native.Nat.{ℕ}
 use native.Mathlib.Omega.{arith}
 use borrow.Author.Needs.{needs}
 use Rattle.model.specs.RelaxingLaws.{okay-if, broken-if, relax-lowers, relax-refuses}
 use Rattle.constraints.specs.declared.Constraint.{Constraint as Entry}
 use Rattle.constraints.specs.Entries.{entry, meaning}
-use Rattle.constraints.specs.StepLaws.{step-obeyed, step-lowered, step-below-zero}
-use Rattle.constraints.proofs.lower.Statement.{statement}
-use Rattle.constraints.proofs.lower.Tie as tie
+use Rattle.relaxing.specs.StepLaws.{step-obeyed, step-lowered, step-below-zero}
+use Rattle.relaxing.proofs.lower.Statement.{statement}
+use Rattle.relaxing.proofs.lower.Tie as tie
 
 abbrev constraint : tie.Start → Entry
 constraint start = entry (start .args .from) (start .args .to) (start .args .credit)

@@ -1,4 +1,4 @@
--- `constraints::settle` meets its contract: a walk of its MIR, by hand. The local array is lent to `fill` as a `&mut [Constraint]` and comes back with the site's entries in front; these are lent to `relax` as a `&[Constraint]`, and `distances` goes to `relax` for good.
+-- `relaxing::settle` meets its contract: a walk of its MIR, by hand. The local array is lent to `fill` as a `&mut [Constraint]` and comes back with the site's entries in front; these are lent to `relax` as a `&[Constraint]`, and `distances` goes to `relax` for good.
 -- What `relax` ensures over the site's entries is then what `settle` ensures. All that the proof knows of the two is that each meets its contract.
 use mathlib.Core.Path.{refl, sym, ap, subst, _∙_}
 use Prim.Native.Nat.{ℕ, _≤_}
@@ -46,28 +46,28 @@ use denote.Triple.Clauses.{ensured, lasts}
 use denote.Triple.Table.{entered, cited}
 use denote.Triple.Walked.{says, Stay, Stays, stay-dropped, gave-slice, walkOf, Goes, goes-dropped, goes-gave-slice, Walks, ends-at, walked, walk-meets}
 use denote.Exit.{yes}
 use Rattle.constraints.specs.Entries.{blank}
 use Rattle.constraints.specs.declared.Constraint.{Constraint}
-use Rattle.constraints.specs.declared.Settling.{Settling}
-use Rattle.constraints.proofs.Local.{array-lies, LentFront, lends-front, front-back}
 use Rattle.constraints.proofs.Constraint as constraint
 use Rattle.constraints.proofs.Constraint.Laws as constraint-laws
-use Rattle.constraints.proofs.Settling as settling
-use Rattle.constraints.proofs.Settling.Laws as settling-laws
-use Rattle.constraints.proofs.fill as fill
-use Rattle.constraints.proofs.fill.Symbol as fill-def
-use Rattle.constraints.proofs.fill.Symbol.{name as #constraints·fill}
-use Rattle.constraints.proofs.fill.Met as fill-thm
-use Rattle.constraints.proofs.relax as relax
-use Rattle.constraints.proofs.relax.Symbol as relax-def
-use Rattle.constraints.proofs.relax.Symbol.{name as #constraints·relax}
-use Rattle.constraints.proofs.relax.Met as relax-thm
-use Rattle.constraints.proofs.settle.Key.{name as #constraints·settle}
-use Rattle.constraints.proofs.settle as settle
-use Rattle.constraints.proofs.settle.Statement as stated
-use Rattle.constraints.proofs.settle.Code as code
-use Rattle.constraints.proofs.settle.Proof.Apart.{four, five, last-out, last-in, needs-both}
-use Rattle.constraints.proofs.settle.Proof.Facts.{blanks, Sized, Obeyable, Settles, Filled, entries, others, counted, entries-few, fit-the-array, all-counted}
+use Rattle.relaxing.specs.declared.Settling.{Settling}
+use Rattle.relaxing.proofs.Local.{array-lies, LentFront, lends-front, front-back}
+use Rattle.relaxing.proofs.Settling as settling
+use Rattle.relaxing.proofs.Settling.Laws as settling-laws
+use Rattle.relaxing.proofs.fill as fill
+use Rattle.relaxing.proofs.fill.Symbol as fill-def
+use Rattle.relaxing.proofs.fill.Symbol.{name as #relaxing·fill}
+use Rattle.relaxing.proofs.fill.Met as fill-thm
+use Rattle.relaxing.proofs.relax as relax
+use Rattle.relaxing.proofs.relax.Symbol as relax-def
+use Rattle.relaxing.proofs.relax.Symbol.{name as #relaxing·relax}
+use Rattle.relaxing.proofs.relax.Met as relax-thm
+use Rattle.relaxing.proofs.settle.Key.{name as #relaxing·settle}
+use Rattle.relaxing.proofs.settle as settle
+use Rattle.relaxing.proofs.settle.Statement as stated
+use Rattle.relaxing.proofs.settle.Code as code
+use Rattle.relaxing.proofs.settle.Proof.Apart.{four, five, last-out, last-in, needs-both}
+use Rattle.relaxing.proofs.settle.Proof.Facts.{blanks, Sized, Obeyable, Settles, Filled, entries, others, counted, entries-few, fit-the-array, all-counted}
 mod Apart
 mod Facts
 
@@ -198,7 +198,7 @@ module _ {M : Type 1} (𝓤 : URA M) (H : Heap 𝓤) (A : Atoms 𝓤) (W : Given
         nothing ! $ move ! (2 ∷ 0 ∷ []) $ join ! $ move ! (1 ∷ 0 ∷ []) $ join ! $ frame ! $ nothing ! $ move ! (2 ∷ 0 ∷ []) $ fjoin ! $ move ! (1 ∷ 0 ∷ []) $ fjoin ! $ done !
 
   module _ (gp : Room u8 (length (ps .now))) (gs : Room u8 (length (ss .now))) (gt : Room u8 (length (ts .now))) (gl : Room u32 (length (ls .now))) (gd : Room u8 (length (ds .now)))
-      (C : Calls 𝓤 H) (Λ : Loops 𝓤 H) (fm : FmC 𝓤 H (W .laws) C) (known-fill : Triple 𝓤 (C #constraints·fill) (Fill 𝓤 H A at-mem run)) (known-relax : Triple 𝓤 (C #constraints·relax) (Relax 𝓤 H A at-mem run)) where
+      (C : Calls 𝓤 H) (Λ : Loops 𝓤 H) (fm : FmC 𝓤 H (W .laws) C) (known-fill : Triple 𝓤 (C #relaxing·fill) (Fill 𝓤 H A at-mem run)) (known-relax : Triple 𝓤 (C #relaxing·relax) (Relax 𝓤 H A at-mem run)) where
     walk : ent 𝓤 (onEntry 𝓤 H A settle.signature κs qs args vals) (WpFn 𝓤 H C Λ code.function (val ps ∷ val ss ∷ val ts ∷ val ls ∷ val ds ∷ []) Post)
     walk =
         via 𝓤 (⋆ 𝓤 H A (‵ Lives ∷ ‵ (flft κ₅ q₅) ∷ ‵ Shared ∷ ‵ Distances ∷ [])) starts (qed W (‵ Lives ∷ ‵ (flft κ₅ q₅) ∷ ‵ Shared ∷ ‵ Distances ∷ []) ∵ enter ! C Λ code.function (val ps ∷ val ss ∷ val ts ∷ val ls ∷ val ds ∷ []) _ $
@@ -256,7 +256,7 @@ module _ {M : Type 1} (𝓤 : URA M) (H : Heap 𝓤) (A : Atoms 𝓤) (W : Given
         -- [(the token of `distances`; true); the verdict; the last distances; true; the tokens of the shared slices]
         split ! $ keep ! (5 ∷ 0 ∷ 3 ∷ 2 ∷ []) $ by ! (exits v w′ (zs′ .1 .0) said))))))))))))))))))))))))))))))))
 
-module _ {M : Type 1} (𝓤 : URA M) (H : Heap 𝓤) (A : Atoms 𝓤) (W : Given 𝓤 H A) (at-mem : Memory → SProp 𝓤) (run : Routine → Fun 𝓤) (𝓣 : Tables 𝓤 H) (known-fill : Triple 𝓤 (𝓣 .C #constraints·fill) (Fill 𝓤 H A at-mem run)) (known-relax : Triple 𝓤 (𝓣 .C #constraints·relax) (Relax 𝓤 H A at-mem run)) where
+module _ {M : Type 1} (𝓤 : URA M) (H : Heap 𝓤) (A : Atoms 𝓤) (W : Given 𝓤 H A) (at-mem : Memory → SProp 𝓤) (run : Routine → Fun 𝓤) (𝓣 : Tables 𝓤 H) (known-fill : Triple 𝓤 (𝓣 .C #relaxing·fill) (Fill 𝓤 H A at-mem run)) (known-relax : Triple 𝓤 (𝓣 .C #relaxing·relax) (Relax 𝓤 H A at-mem run)) where
   settle-walks : Walks 𝓤 H A settle.ended stayed (WpFn 𝓤 H (𝓣 .C) (𝓣 .Λ) code.function) (settle.clauses 𝓤 H A at-mem run)
   settle-walks = walked 𝓤 H A settle.ended stayed (settle.clauses 𝓤 H A at-mem run) (WpFn 𝓤 H (𝓣 .C) (𝓣 .Λ) code.function) (λ κs. (slice-vals, (slice-vals, (slice-vals, (slice-vals, (slice-vals, tt))))))
       (λ κs. (shr-slice-tells (named 0) (κs .0) u8, (shr-slice-tells (named 1) (κs .1 .0) u8, (shr-slice-tells (named 2) (κs .1 .1 .0) u8, (shr-slice-tells (named 3) (κs .1 .1 .1 .0) u32, (mut-slice-tells (named 4) (κs .1 .1 .1 .1 .0) u8, tt))))))
@@ -276,7 +276,7 @@ pub settle-spec : {M : Type 1} → stated.statement M
 unfolding code.routine tablesOf
 settle-spec 𝓤 H 𝓜 𝓖 𝓡 =
     entered 𝓤 H (tripleOf 𝓤 H (𝓖 .A) settle.signature (settle.spec 𝓤 H (𝓖 .A) (𝓜 .mem) (𝓡 .run)))
-    (tables 𝓤 H 𝓜 𝓡 code.env .C) (tables 𝓤 H 𝓜 𝓡 code.env .Λ) #constraints·settle code.function (code.unfolded 𝓤 H 𝓜 𝓡)
+    (tables 𝓤 H 𝓜 𝓡 code.env .C) (tables 𝓤 H 𝓜 𝓡 code.env .Λ) #relaxing·settle code.function (code.unfolded 𝓤 H 𝓜 𝓡)
     (settle-meets 𝓤 H (𝓖 .A) (givenOf 𝓤 H 𝓜 𝓖) (𝓜 .mem) (𝓡 .run) (tablesOf 𝓤 H 𝓜 (tables 𝓤 H 𝓜 𝓡 code.env))
-    (cited 𝓤 H (Fill 𝓤 H (𝓖 .A) (𝓜 .mem) (𝓡 .run)) 𝓜 𝓡 code.env #constraints·fill fill-def.routine code.calls-constraints·fill (fill-thm.met 𝓤 H 𝓜 𝓖 𝓡))
-    (cited 𝓤 H (Relax 𝓤 H (𝓖 .A) (𝓜 .mem) (𝓡 .run)) 𝓜 𝓡 code.env #constraints·relax relax-def.routine code.calls-constraints·relax (relax-thm.met 𝓤 H 𝓜 𝓖 𝓡)))
+    (cited 𝓤 H (Fill 𝓤 H (𝓖 .A) (𝓜 .mem) (𝓡 .run)) 𝓜 𝓡 code.env #relaxing·fill fill-def.routine code.calls-relaxing·fill (fill-thm.met 𝓤 H 𝓜 𝓖 𝓡))
+    (cited 𝓤 H (Relax 𝓤 H (𝓖 .A) (𝓜 .mem) (𝓡 .run)) 𝓜 𝓡 code.env #relaxing·relax relax-def.routine code.calls-relaxing·relax (relax-thm.met 𝓤 H 𝓜 𝓖 𝓡)))

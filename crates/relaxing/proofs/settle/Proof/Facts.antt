@@ -7,11 +7,11 @@ use lib.ListN.{length, drop, replicate, length-replicate, length-append, length-
 use Rattle.model.specs.ConstraintLaws.{Within}
 use Rattle.model.specs.Counting.{Each}
 use Rattle.model.specs.Relaxing.{settledWithin}
 use Rattle.constraints.specs.Entries.{blank, meaning, siteEntries}
 use Rattle.constraints.specs.EntryLaws.{site-entries-length}
-use Rattle.constraints.specs.Steps.{settledAs}
 use Rattle.constraints.specs.declared.Constraint.{Constraint}
-use Rattle.constraints.specs.declared.Settling.{Settling}
+use Rattle.relaxing.specs.Steps.{settledAs}
+use Rattle.relaxing.specs.declared.Settling.{Settling}
 
 -- the array as it is made
 abbrev pub blanks : List Constraint

@@ -7,10 +7,10 @@ use native.Mathlib.Omega.{arith}
 use lib.ListN.{length, getD, set, take, drop, length-set}
 use lib.Seq.{take-all}
 use lib.WfN.{Nat·lt-wfRel}
 use Rattle.constraints.specs.declared.Constraint.{Constraint as Entry}
 use Rattle.constraints.specs.Entries.{blank, siteEntries}
 use Rattle.constraints.specs.EntryLaws.{site-entries-length}
-use Rattle.constraints.specs.ListLaws.{stored-next}
+use Rattle.relaxing.specs.ListLaws.{stored-next}
 
 module _ (ps ss ts ls : List ℕ) (ys : List Entry) where
   abbrev pub count : ℕ

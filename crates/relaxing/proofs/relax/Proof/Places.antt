@@ -14,15 +14,15 @@ use denote.Memory.{pointee}
 use denote.Builtin.{u8}
 use denote.Ref.{RefT}
 use denote.Slice.{sliceTy, sliceVal, ShrSlice}
 use Rattle.constraints.specs.declared.Constraint.{Constraint as Entry}
-use Rattle.constraints.specs.declared.Step.{Step}
-use Rattle.constraints.proofs.Again.{Owns, slice}
 use Rattle.constraints.proofs.Constraint as entry
 use Rattle.constraints.proofs.Constraint.Laws as entry-laws
-use Rattle.constraints.proofs.Settling.Laws as settling-laws
-use Rattle.constraints.proofs.Step.Laws as step-laws
-use Rattle.constraints.proofs.relax.Code.Mir as code-mir
-use Rattle.constraints.proofs.relax.Proof.Rounds.{Round, Turn}
+use Rattle.relaxing.specs.declared.Step.{Step}
+use Rattle.relaxing.proofs.Again.{Owns, slice}
+use Rattle.relaxing.proofs.Settling.Laws as settling-laws
+use Rattle.relaxing.proofs.Step.Laws as step-laws
+use Rattle.relaxing.proofs.relax.Code.Mir as code-mir
+use Rattle.relaxing.proofs.relax.Proof.Rounds.{Round, Turn}
 
 -- ## The locals' types
 

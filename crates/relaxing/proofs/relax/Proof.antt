@@ -1,4 +1,4 @@
--- `constraints::relax` meets its contract: a walk of its MIR, by hand, since it holds a slice of structs. The invariant of the rounds: to settle the distances in
+-- `relaxing::relax` meets its contract: a walk of its MIR, by hand, since it holds a slice of structs. The invariant of the rounds: to settle the distances in
 -- the rounds left is to settle the first ones in as many rounds as there are distances. That of a round is `Midway`: what is left to relax, and the note of a
 -- change, say what the whole round does (`Rounds`). A turn reads one constraint, lends the distances to `lower`, and goes by the outcome: on to the next one, on
 -- with the note set, or out of both loops.
@@ -48,34 +48,34 @@ use denote.Triple.Walked.{needs, goes-slice, goes-none-slice, Walks, walked, wal
 use denote.Exit.{yes}
 use Rattle.model.specs.ConstraintLaws.{Within}
 use Rattle.model.specs.Counting.{Each}
 use Rattle.constraints.specs.declared.Constraint.{Constraint as Entry}
-use Rattle.constraints.specs.declared.Settling.{Settling}
-use Rattle.constraints.specs.declared.Settling.the-variants.{Settled, NegativeLoop}
-use Rattle.constraints.specs.declared.Step.{Step}
-use Rattle.constraints.specs.declared.Step.the-variants.{Obeyed, Lowered, BelowZero}
 use Rattle.constraints.specs.Entries.{blank, meaning}
-use Rattle.constraints.specs.StepLaws.{Stepped, Tells, step-tells, each-entry}
-use Rattle.constraints.proofs.Again.{Owns, Kept, lends-again, comes-back}
 use Rattle.constraints.proofs.Constraint as entry
 use Rattle.constraints.proofs.Constraint.Laws as entry-laws
-use Rattle.constraints.proofs.Settling.Laws as settling-laws
-use Rattle.constraints.proofs.Step as step
-use Rattle.constraints.proofs.Step.Laws as step-laws
-use Rattle.constraints.proofs.lower as lower
-use Rattle.constraints.proofs.lower.Symbol as lower-def
-use Rattle.constraints.proofs.lower.Symbol.{name as #constraints·lower}
-use Rattle.constraints.proofs.lower.Met as lower-thm
-use Rattle.constraints.proofs.relax.Key.{name as #constraints·relax}
-use Rattle.constraints.proofs.relax as f
-use Rattle.constraints.proofs.relax.Statement as stated
-use Rattle.constraints.proofs.relax.Code as code
-use Rattle.constraints.proofs.relax.Code.Mir as code-mir
-use Rattle.constraints.proofs.relax.Proof.Contracts.{stayed, Lower, verdict-made, verdict-typed, κs, args, vals, Post, exits, given, to-lower, Lasts, goes}
-use Rattle.constraints.proofs.relax.Proof.Places.{distancesTy, round-on, round-end, one-less, turn-on, called, notes-change, gives-up, next-place, Passed, Locals, list, listV, distancesV, OwnL, OwnD, env, Before-round, At-round, At-turn, At-outcome, At-verdict}
-use Rattle.constraints.proofs.relax.Proof.Rounds.{Says, Round, Fewer, fewer-ends, first-round, none-left, Turn, Nearer, nearer-ends, first-turn, constraint, next-nearer, after-obeyed, after-lowered, below-zero, unchanged-says, next-round, next-fewer, some-left, next-fits, left-fits}
-use Rattle.constraints.proofs.Sizes.{bytes, place-fits}
+use Rattle.relaxing.specs.declared.Settling.{Settling}
+use Rattle.relaxing.specs.declared.Settling.the-variants.{Settled, NegativeLoop}
+use Rattle.relaxing.specs.declared.Step.{Step}
+use Rattle.relaxing.specs.declared.Step.the-variants.{Obeyed, Lowered, BelowZero}
+use Rattle.relaxing.specs.StepLaws.{Stepped, Tells, step-tells, each-entry}
+use Rattle.relaxing.proofs.Again.{Owns, Kept, lends-again, comes-back}
+use Rattle.relaxing.proofs.Settling.Laws as settling-laws
+use Rattle.relaxing.proofs.Step as step
+use Rattle.relaxing.proofs.Step.Laws as step-laws
+use Rattle.relaxing.proofs.lower as lower
+use Rattle.relaxing.proofs.lower.Symbol as lower-def
+use Rattle.relaxing.proofs.lower.Symbol.{name as #relaxing·lower}
+use Rattle.relaxing.proofs.lower.Met as lower-thm
+use Rattle.relaxing.proofs.relax.Key.{name as #relaxing·relax}
+use Rattle.relaxing.proofs.relax as f
+use Rattle.relaxing.proofs.relax.Statement as stated
+use Rattle.relaxing.proofs.relax.Code as code
+use Rattle.relaxing.proofs.relax.Code.Mir as code-mir
+use Rattle.relaxing.proofs.relax.Proof.Contracts.{stayed, Lower, verdict-made, verdict-typed, κs, args, vals, Post, exits, given, to-lower, Lasts, goes}
+use Rattle.relaxing.proofs.relax.Proof.Places.{distancesTy, round-on, round-end, one-less, turn-on, called, notes-change, gives-up, next-place, Passed, Locals, list, listV, distancesV, OwnL, OwnD, env, Before-round, At-round, At-turn, At-outcome, At-verdict}
+use Rattle.relaxing.proofs.relax.Proof.Rounds.{Says, Round, Fewer, fewer-ends, first-round, none-left, Turn, Nearer, nearer-ends, first-turn, constraint, next-nearer, after-obeyed, after-lowered, below-zero, unchanged-says, next-round, next-fewer, some-left, next-fits, left-fits}
+use Rattle.relaxing.proofs.Sizes.{bytes, place-fits}
 
-module _ {M : Type 1} (𝓤 : URA M) (H : Heap 𝓤) (A : Atoms 𝓤) (W : Given 𝓤 H A) (at-mem : Memory → SProp 𝓤) (run : Routine → Fun 𝓤) (𝓣 : Tables 𝓤 H) (known : Triple 𝓤 (𝓣 .C #constraints·lower) (Lower 𝓤 H A at-mem run)) (z : Passed)
+module _ {M : Type 1} (𝓤 : URA M) (H : Heap 𝓤) (A : Atoms 𝓤) (W : Given 𝓤 H A) (at-mem : Memory → SProp 𝓤) (run : Routine → Fun 𝓤) (𝓣 : Tables 𝓤 H) (known : Triple 𝓤 (𝓣 .C #relaxing·lower) (Lower 𝓤 H A at-mem run)) (z : Passed)
     (list-room : Room entry.the-row (length (z .ys))) (room : Room u8 (length (z .d₀))) (all-within : Each (Within (length (z .d₀))) (map meaning (z .ys))) where
   abbrev C : Calls 𝓤 H
   C = 𝓣 .C
@@ -237,7 +237,7 @@ module _ {M : Type 1} (𝓤 : URA M) (H : Heap 𝓤) (A : Atoms 𝓤) (W : Given
       keep ! (5 ∷ 2 ∷ 3 ∷ 0 ∷ 36 ∷ 37 ∷ 34 ∷ 35 ∷ 32 ∷ 33 ∷ 30 ∷ 31 ∷ 28 ∷ 29 ∷ 26 ∷ 27 ∷ 24 ∷ 25 ∷ 22 ∷ 23 ∷ 20 ∷ 21 ∷ 18 ∷ 19 ∷ 16 ∷ 17 ∷ 14 ∷ 15 ∷ 12 ∷ 13 ∷ 10 ∷ 11 ∷ 8 ∷ 9 ∷ 6 ∷ 7 ∷ []) $
       all-rounds (record { l₀ = l₀; l₁ = l₁; l₂ = l₂; l₃ = l₃; l₄ = l₄; l₅ = l₅; l₆ = l₆; l₇ = l₇; l₈ = l₈; l₉ = l₉; l₁₀ = l₁₀; l₁₁ = l₁₁; l₁₂ = l₁₂; l₁₃ = l₁₃; l₁₄ = l₁₄; l₁₅ = l₁₅ })))))))))))))))))
 
-module _ {M : Type 1} (𝓤 : URA M) (H : Heap 𝓤) (A : Atoms 𝓤) (W : Given 𝓤 H A) (at-mem : Memory → SProp 𝓤) (run : Routine → Fun 𝓤) (𝓣 : Tables 𝓤 H) (known : Triple 𝓤 (𝓣 .C #constraints·lower) (Lower 𝓤 H A at-mem run)) where
+module _ {M : Type 1} (𝓤 : URA M) (H : Heap 𝓤) (A : Atoms 𝓤) (W : Given 𝓤 H A) (at-mem : Memory → SProp 𝓤) (run : Routine → Fun 𝓤) (𝓣 : Tables 𝓤 H) (known : Triple 𝓤 (𝓣 .C #relaxing·lower) (Lower 𝓤 H A at-mem run)) where
   relax-walks : Walks 𝓤 H A f.ended stayed (WpFn 𝓤 H (𝓣 .C) (𝓣 .Λ) code.function) (f.clauses 𝓤 H A at-mem run)
   relax-walks = walked 𝓤 H A f.ended stayed (f.clauses 𝓤 H A at-mem run) (WpFn 𝓤 H (𝓣 .C) (𝓣 .Λ) code.function) (λ κs. (slice-vals, (slice-vals, tt))) (λ κs. (shr-slice-tells (named 0) (κs .0) entry.the-row, (mut-slice-tells (named 1) (κs .1 .0) u8, tt)))
       (λ κs qs bounds a g are. needs 𝓤 (Each (Within (length (now (a .1 .0)))) (map meaning (now (a .0)))) _ (λ within.
@@ -252,6 +252,6 @@ pub relax-spec : {M : Type 1} → stated.statement M
 unfolding code.routine tablesOf
 relax-spec 𝓤 H 𝓜 𝓖 𝓡 =
     entered 𝓤 H (tripleOf 𝓤 H (𝓖 .A) f.signature (f.spec 𝓤 H (𝓖 .A) (𝓜 .mem) (𝓡 .run)))
-    (tables 𝓤 H 𝓜 𝓡 code.env .C) (tables 𝓤 H 𝓜 𝓡 code.env .Λ) #constraints·relax code.function (code.unfolded 𝓤 H 𝓜 𝓡)
+    (tables 𝓤 H 𝓜 𝓡 code.env .C) (tables 𝓤 H 𝓜 𝓡 code.env .Λ) #relaxing·relax code.function (code.unfolded 𝓤 H 𝓜 𝓡)
     (relax-meets 𝓤 H (𝓖 .A) (givenOf 𝓤 H 𝓜 𝓖) (𝓜 .mem) (𝓡 .run) (tablesOf 𝓤 H 𝓜 (tables 𝓤 H 𝓜 𝓡 code.env))
-    (cited 𝓤 H (Lower 𝓤 H (𝓖 .A) (𝓜 .mem) (𝓡 .run)) 𝓜 𝓡 code.env #constraints·lower lower-def.routine code.calls-constraints·lower (lower-thm.met 𝓤 H 𝓜 𝓖 𝓡)))
+    (cited 𝓤 H (Lower 𝓤 H (𝓖 .A) (𝓜 .mem) (𝓡 .run)) 𝓜 𝓡 code.env #relaxing·lower lower-def.routine code.calls-relaxing·lower (lower-thm.met 𝓤 H 𝓜 𝓖 𝓡)))

@@ -4,12 +4,12 @@ use mathlib.Core.List.{List}
 use mathlib.Core.Option.{Option, none, some}
 use Prim.Native.Nat.{ℕ}
 use Rattle.model.specs.Relaxing.{okay, relax}
 use Rattle.constraints.specs.declared.Constraint.{Constraint as Entry}
-use Rattle.constraints.specs.declared.Settling.{Settling}
-use Rattle.constraints.specs.declared.Settling.the-variants.{Settled, NegativeLoop}
-use Rattle.constraints.specs.declared.Step.{Step}
-use Rattle.constraints.specs.declared.Step.the-variants.{Obeyed, Lowered, BelowZero}
 use Rattle.constraints.specs.Entries.{meaning}
+use Rattle.relaxing.specs.declared.Settling.{Settling}
+use Rattle.relaxing.specs.declared.Settling.the-variants.{Settled, NegativeLoop}
+use Rattle.relaxing.specs.declared.Step.{Step}
+use Rattle.relaxing.specs.declared.Step.the-variants.{Obeyed, Lowered, BelowZero}
 
 -- whether the distances obey the entry's constraint, or one can be lowered, or would fall below 0
 unfoldable pub outcome : Entry → List ℕ → Step

@@ -32,19 +32,19 @@ use denote.Triple.Statement.{Contract}
 use denote.Triple.Walked.{says, Stays, stay-slice, stay-none-slice, walkOf, ends-at}
 use denote.Exit.{yes}
 use Rattle.model.specs.ConstraintLaws.{Within}
 use Rattle.constraints.specs.declared.Constraint.{Constraint as Entry}
-use Rattle.constraints.specs.declared.Settling.{Settling}
-use Rattle.constraints.specs.declared.Settling.the-variants.{Settled, NegativeLoop}
 use Rattle.constraints.specs.Entries.{meaning}
-use Rattle.constraints.proofs.Again.{Owns}
 use Rattle.constraints.proofs.Constraint as entry
 use Rattle.constraints.proofs.Constraint.Laws as entry-laws
-use Rattle.constraints.proofs.Settling as settling
-use Rattle.constraints.proofs.Settling.Laws as settling-laws
-use Rattle.constraints.proofs.lower as lower
-use Rattle.constraints.proofs.relax as f
-use Rattle.constraints.proofs.relax.Proof.Places.{Passed, list, distances, listV, distancesV, OwnL, OwnD}
-use Rattle.constraints.proofs.relax.Proof.Rounds.{Says}
+use Rattle.relaxing.specs.declared.Settling.{Settling}
+use Rattle.relaxing.specs.declared.Settling.the-variants.{Settled, NegativeLoop}
+use Rattle.relaxing.proofs.Again.{Owns}
+use Rattle.relaxing.proofs.Settling as settling
+use Rattle.relaxing.proofs.Settling.Laws as settling-laws
+use Rattle.relaxing.proofs.lower as lower
+use Rattle.relaxing.proofs.relax as f
+use Rattle.relaxing.proofs.relax.Proof.Places.{Passed, list, distances, listV, distancesV, OwnL, OwnD}
+use Rattle.relaxing.proofs.relax.Proof.Rounds.{Says}
 
 abbrev pub stayed : Stays (f.ended .signature .params) (f.ended .kept)
 stayed = (stay-none-slice (0 ∷ []) tt (plain (λ _. entry.the-row)) yes, (stay-slice (1 ∷ []) tt (plain (λ _. u8)), tt))
