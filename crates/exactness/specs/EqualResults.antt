@@ -1,12 +1,12 @@
 -- Two results that one contract allows are equal (docs/PROMISES.md, "Theorems"), for each public function. A contract says that
 -- the result is d, or that the result is d and the room is e, with d and e made of the arguments alone, so each line here is an instance of one of two laws.
--- A part of a text that is shown is a place in memory and its bytes; these are equal, and nothing else of it can be looked at. The three exceptions,
--- which docs/PROMISES.md explains, are functions that fill an array of inner functions' own and leave some of it open (relaxing::settle, hexbytes::is_malformed, site::line_entry).
+-- A part of a text that is shown is a place in memory and its bytes; these are equal, and nothing else of it can be looked at. The exceptions,
+-- which docs/PROMISES.md explains, are functions that fill arrays of inner functions' own and leave some of them open (relaxing::settle, hexbytes::is_malformed, site::line_entry, figures::figures_of, this one also its period).
 use mathlib.Core.Path.{_≡_, sym, _∙_}
 use mathlib.Core.Bool.{Bool, false}
-use mathlib.Core.List.{List, _++_}
+use mathlib.Core.List.{List, [], _∷_, _++_}
 use Prim.Native.Nat.{ℕ, _+_, _*_, _/_, _<_, min}
-use lib.ListN.{length, getD, drop, replicate}
+use lib.ListN.{length, getD, take, drop, replicate}
 use denote.Ref.{RefT, ptr, now}
 use Rattle.hexline.specs.Digits.{isDigit, digit, hexOf, byteAt, numberAt, hexes, numberBytes, fieldBytes, lineOf}
 use Rattle.hexline.specs.Loops.{filled}
@@ -48,6 +48,19 @@ OneResult {A} d = (r₁ r₂ : A) → r₁ ≡ d → r₂ ≡ d → r₁ ≡ r�
 abbrev pub OneResultInRoom : {A B : Type 0} → A → B → Type 0
 OneResultInRoom {A} {B} d e = (r₁ r₂ : A) (room₁ room₂ : B) → (r₁ ≡ d) × (room₁ ≡ e) → (r₂ ≡ d) × (room₂ ≡ e) → (r₁ ≡ r₂) × (room₁ ≡ room₂)
 
+-- two figures with the same counts, the same entries up to them, the same sum of portions, and a period that permits the same orders
+pub record SameFigures (a b : Figures) : Type 0 where
+  pub clusters : a .«cluster_count» ≡ b .«cluster_count»
+  pub flows : a .«flow_count» ≡ b .«flow_count»
+  pub parents : take (a .«cluster_count») (a .parents) ≡ take (b .«cluster_count») (b .parents)
+  pub depths : take (a .«cluster_count») (a .depths) ≡ take (b .«cluster_count») (b .depths)
+  pub sources : take (a .«flow_count») (a .sources) ≡ take (b .«flow_count») (b .sources)
+  pub sinks : take (a .«flow_count») (a .sinks) ≡ take (b .«flow_count») (b .sinks)
+  pub descents : take (a .«flow_count») (a .descents) ≡ take (b .«flow_count») (b .descents)
+  pub deadlines : take (a .«flow_count») (a .deadlines) ≡ take (b .«flow_count») (b .deadlines)
+  pub permits : (order : ℕ) → permitted order (a .shortest ∷ []) ≡ permitted order (b .shortest ∷ [])
+  pub total : a .total ≡ b .total
+
 pub record EqualResults : Type 0 where
   -- the line layer
   pub «is_digit» : (b : ℕ) → OneResult (isDigit b)
@@ -82,7 +95,7 @@ pub record EqualResults : Type 0 where
   pub «same_tag» : (a b : Tag) → OneResult (sameTag a b)
   pub «line_start» : (text : List ℕ) (k : ℕ) → OneResult (lineStart text k)
   pub «line_at» : (text part₁ part₂ : RefT (List ℕ)) (k : ℕ) → Shown text part₁ k → Shown text part₂ k → (ptr part₁ ≡ ptr part₂) × (now part₁ ≡ now part₂)
-  -- the tree, the flows' limits, the constraints and the clusters in order of start
+  -- the tree, the flows' limits, the constraints, the clusters in order of start, and the search with its figures
   pub depths : (parents : List ℕ) → OneResult (values (depth (numberIn parents)) 0 (length parents))
   pub top : (parents : List ℕ) (a b : ℕ) → OneResult (topOf (numberIn parents) a b)
   pub «limit_flows» : (descents deadlines : List ℕ) (interval : ℕ) → OneResult (limitsOf descents deadlines interval)
@@ -90,6 +103,7 @@ pub record EqualResults : Type 0 where
   pub sequence : (size : ℕ) (parent N : ℕ → ℕ) (room room₁ room₂ : List ℕ) (r₁ r₂ : ℕ) → Sequenced size parent N room room₁ r₁ → Sequenced size parent N room room₂ r₂ → (r₁ ≡ r₂) × (room₁ ≡ room₂)
   pub search : (figures : Figures) (before counts₁ counts₂ : List ℕ) (r₁ r₂ : Found) → ((s : model.Site) × Posed s figures)
       → ((s : model.Site) → Posed s figures → Searched s r₁ before counts₁) → ((s : model.Site) → Posed s figures → Searched s r₂ before counts₂) → (r₁ ≡ r₂) × (counts₁ ≡ counts₂)
+  pub «figures_of» : (s : Site) (r₁ r₂ : Figures) → Posed (siteOf s) r₁ → Posed (siteOf s) r₂ → SameFigures r₁ r₂
   -- the writer and the planner, with the room that they were lent
   pub «put_header» : (room : List ℕ) (order clusters : ℕ) → OneResultInRoom (length (lineOf (planHeader order clusters))) (put room 0 (lineOf (planHeader order clusters)))
   pub «put_cluster» : (room : List ℕ) (at cluster start len : ℕ) (tag : Tag) → OneResultInRoom (at + length (lineOf (clusterLine cluster start len tag))) (put room at (lineOf (clusterLine cluster start len tag)))
@@ -144,6 +158,18 @@ results-are-equal = record {
   sequence = λ size parent N room room₁ room₂ r₁ r₂ p q. let placed = inOrder size parent N in
       equal-results-in-room (length placed) (placed ++ drop (length placed) room) r₁ r₂ room₁ room₂ (p .number, sequenced-room size parent N room room₁ r₁ p) (q .number, sequenced-room size parent N room room₂ r₂ q);
   search = λ figures before counts₁ counts₂ r₁ r₂ w p q. searched-once (w .0) (p (w .0) (w .1)) (q (w .0) (w .1));
+  «figures_of» = λ s r₁ r₂ p q. record {
+    clusters = p .clusters-counted ∙ sym (q .clusters-counted);
+    flows = p .flows-counted ∙ sym (q .flows-counted);
+    parents = p .parents-are ∙ sym (q .parents-are);
+    depths = p .depths-are ∙ sym (q .depths-are);
+    sources = p .sources-are ∙ sym (q .sources-are);
+    sinks = p .sinks-are ∙ sym (q .sinks-are);
+    descents = p .descents-are ∙ sym (q .descents-are);
+    deadlines = p .deadlines-are ∙ sym (q .deadlines-are);
+    permits = λ order. p .permits order ∙ sym (q .permits order);
+    total = p .sums ∙ sym (q .sums);
+  };
   «put_header» = λ room order clusters. equal-results-in-room (length (lineOf (planHeader order clusters))) (put room 0 (lineOf (planHeader order clusters)));
   «put_cluster» = λ room at cluster start len tag. equal-results-in-room (at + length (lineOf (clusterLine cluster start len tag))) (put room at (lineOf (clusterLine cluster start len tag)));
   write = λ s room. equal-results-in-room (written (checked s) (textOf s) (length room)) (writtenRoom (checked s) (textOf s) room);

@@ -27,11 +27,11 @@ use Rattle.site.specs.declared.Verdict.the-variants.{Accepted}
 use Rattle.site.specs.Records.{noCluster, noFlow, noSite, absent, sameTag, printableTag, headerOutside, clusterOutside, flowOutside, wrongParent, tagTaken}
 use Rattle.records.specs.Check.{clusterRefusal, flowRefusal, firstBad, clustersVerdict, flowsVerdict, checked}
 use Rattle.plantext.specs.PlanText.{siteOf, planHeader, clusterLine, planLine, planLines, planText}
+use Rattle.figures.specs.SiteLaws.{describes-sound}
 use Rattle.planner.specs.declared.Planned.{Planned}
 use Rattle.planner.specs.declared.Planned.the-variants.{Plan, Refused}
 use Rattle.planner.specs.Answers.{answer, roomAfter}
 use Rattle.exactness.specs.PlanRead.{startsIn}
-use Rattle.planner.specs.SiteLaws.{describes-sound}
 
 -- ---- the contract
 

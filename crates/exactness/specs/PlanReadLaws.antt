@@ -28,9 +28,9 @@ use Rattle.site.specs.Records.{absent}
 use Rattle.records.specs.Check.{checked}
 use Rattle.records.specs.Checked.{ClusterIn, checked-unrefused, counts-in, site-cluster-in}
 use Rattle.plantext.specs.PlanText.{siteOf, planHeader, clusterLine, planLine, planLines, planText}
+use Rattle.figures.specs.SiteLaws.{clusters-counted}
 use Rattle.exactness.specs.EachOnce.{each-is-cluster, has-each-cluster, has-each-once}
 use Rattle.exactness.specs.PlanRead.{isLineOf, startAmong, orderIn, linesFor, startsIn}
-use Rattle.planner.specs.SiteLaws.{clusters-counted}
 
 -- ---- a permitted order is one of 0 to 14, and its interval is below 2^24
 

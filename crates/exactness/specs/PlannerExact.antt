@@ -26,11 +26,11 @@ use Rattle.site.specs.declared.Verdict.the-variants.{Accepted, Refused}
 use Rattle.records.specs.Check.{checked}
 use Rattle.records.specs.CheckNumbers.{ByRecords, check-by-records}
 use Rattle.plantext.specs.PlanText.{siteOf, planText}
+use Rattle.figures.specs.SiteLaws.{clusters-counted, describes-sound}
 use Rattle.planner.specs.declared.Planned.{Planned}
 use Rattle.planner.specs.declared.Planned.the-variants.{Plan, Refused as RefusedPlan}
 use Rattle.planner.specs.Answers.{answer, roomAfter}
 use Rattle.planner.specs.PlanSize.{planSize, plan-text-size}
-use Rattle.planner.specs.SiteLaws.{clusters-counted, describes-sound}
 use Rattle.exactness.specs.PlanRead.{orderIn, linesFor, startsIn}
 use Rattle.exactness.specs.PlanReadLaws.{order-in-plan-text, starts-in-plan-text, one-line-each, no-other-line}
 use Rattle.exactness.specs.SameStarts.{same-starts-place}

@@ -1,10 +1,7 @@
 -- the planner's answer
 pub mod Answers
--- what the inner functions say
+-- what `place_clusters` says
 pub mod Schedules
-pub mod Numbers
 -- laws of them, which the code and the theorems use
-pub mod NumberLaws
-pub mod SiteLaws
 pub mod SequenceLaws
 pub mod PlanSize

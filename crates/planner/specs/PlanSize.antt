@@ -22,7 +22,7 @@ use Rattle.records.specs.Check.{checked}
 use Rattle.records.specs.Checked.{checked-unrefused, counts-in, site-cluster-in}
 use Rattle.plantext.specs.PlanText.{siteOf, planLine, planLines, planText}
 use Rattle.plantext.specs.PlanTextLaws.{cluster-length, text-length}
-use Rattle.planner.specs.SiteLaws.{clusters-counted, describes-sound}
+use Rattle.figures.specs.SiteLaws.{clusters-counted, describes-sound}
 
 abbrev pub lineSize : Site → ℕ → ℕ
 lineSize s c = 23 + 2 * getD (s .clusters) c absent .tag .len

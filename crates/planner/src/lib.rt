@@ -1,9 +1,6 @@
 // The planner: from a site's records to the plan text in a lent room, or a refusal.
-mod numbers;
-
 use model::Order;
 use model::wide;
-use numbers::figures_of;
 use search::Figures;
 use search::Found;
 use site::Site;
@@ -76,7 +73,7 @@ pub fn plan_accepted(site: Site, room: &mut [u8]) -> Planned
         size += 23 + 2 * wide(cluster.tag.len);
         i += 1;
     }
-    let schedule = place_clusters(figures_of(site, parents, total), &mut placed[..n]);
+    let schedule = place_clusters(figures::figures_of(site, parents, total), &mut placed[..n]);
     match schedule {
         Schedule::NoFit => Planned::Refused { number: 7, line: 0 },
         Schedule::NoPlacing => Planned::Refused { number: 8, line: 0 },

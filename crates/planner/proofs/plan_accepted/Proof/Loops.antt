@@ -16,9 +16,9 @@ use Rattle.site.specs.declared.Cluster.{Cluster}
 use Rattle.site.specs.declared.Site.{Site}
 use Rattle.site.specs.declared.Verdict.the-variants.{Accepted}
 use Rattle.records.specs.Check.{checked}
-use Rattle.planner.specs.Numbers.{parentsOf, portionsOf}
+use Rattle.figures.specs.Numbers.{parentsOf, portionsOf}
+use Rattle.figures.specs.SiteLaws.{counts-bounded}
 use Rattle.planner.specs.PlanSize.{lineSize}
-use Rattle.planner.specs.SiteLaws.{counts-bounded}
 use Rattle.planner.proofs.plan_accepted.Tie as tie
 
 -- records with these clusters and no flows

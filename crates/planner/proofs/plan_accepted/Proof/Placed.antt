@@ -9,11 +9,11 @@ use lib.Seq.{length-take-le, take-append-le}
 use Rattle.model.specs.Plans.{plan, planned}
 use Rattle.search.specs.Posed.{Posed}
 use Rattle.plantext.specs.PlanText.{siteOf, planText, Placed}
+use Rattle.figures.specs.SiteLaws.{counts-bounded, clusters-counted}
 use Rattle.planner.specs.declared.Schedule.{Schedule}
 use Rattle.planner.specs.PlanSize.{planSize, plan-text-size}
 use Rattle.planner.specs.Schedules.{scheduledAs, scheduledCount}
 use Rattle.planner.specs.SequenceLaws.{planned-fresh}
-use Rattle.planner.specs.SiteLaws.{counts-bounded, clusters-counted}
 use borrow.Author.Needs.{needs}
 use Rattle.planner.proofs.plan_accepted.Proof.Loops.{Inv-loop, μ-loop, Inv-loop2, μ-loop2, zeros, site, n, accepted, n-is, n-bounded}
 use Rattle.planner.proofs.plan_accepted.Tie as tie

@@ -1,4 +1,4 @@
--- `planner::numbers::figures_of` meets its contract: each number is taken from accepted records, which describe a sound site, so each is that site's (`Turns` has the loop's invariant).
+-- `figures::figures_of` meets its contract: each number is taken from accepted records, which describe a sound site, so each is that site's (`Turns` has the loop's invariant).
 mod Turns
 use mathlib.Core.Path.{_≡_, refl, sym, _∙_}
 use mathlib.Core.Logic.{⊎-elim}
@@ -6,12 +6,12 @@ use native.Mathlib.Omega.{arith}
 use lib.Seq.{length-take-le}
 use Rattle.hexline.specs.Loops.{filled, filled-next}
 use Rattle.model.specs.Relaxing.{depths as depthsOf}
-use Rattle.planner.specs.NumberLaws.{shortest-more, shortest-ends}
-use Rattle.planner.specs.SiteLaws.{counts-bounded, clusters-counted, flows-counted, describes-sound, total-is, numbers-are, descents-are, permits-alike}
+use Rattle.figures.specs.NumberLaws.{shortest-more, shortest-ends}
+use Rattle.figures.specs.SiteLaws.{counts-bounded, clusters-counted, flows-counted, describes-sound, total-is, numbers-are, descents-are, permits-alike}
 use borrow.Author.Needs.{needs}
-use Rattle.planner.proofs.numbers.figures_of.Proof.Turns.{Inv-loop, μ-loop, zeros, start, site, f, accepted, n-is, f-is, n-bounded, f-bounded, f-whole, parents-fit, parents-number, parents-here, tree, counted, levels-are, was, first, running, ends-here, ends-fit, turn, top-there, difference}
-use Rattle.planner.proofs.numbers.figures_of.Statement.{statement}
-use Rattle.planner.proofs.numbers.figures_of.Tie as tie
+use Rattle.figures.proofs.figures_of.Proof.Turns.{Inv-loop, μ-loop, zeros, start, site, f, accepted, n-is, f-is, n-bounded, f-bounded, f-whole, parents-fit, parents-number, parents-here, tree, counted, levels-are, was, first, running, ends-here, ends-fit, turn, top-there, difference}
+use Rattle.figures.proofs.figures_of.Statement.{statement}
+use Rattle.figures.proofs.figures_of.Tie as tie
 
 wide-requires : tie.Need-wide-requires Inv-loop μ-loop
 wide-requires c κs = search needs

@@ -1,4 +1,4 @@
--- The loop of `planner::numbers::figures_of`, and what is known before it and in a turn. The invariant: the numbers of the flows before `i` are filled in, and the least of the period so far
+-- The loop of `figures::figures_of`, and what is known before it and in a turn. The invariant: the numbers of the flows before `i` are filled in, and the least of the period so far
 -- and those of the flows from `i` on is the least of all. The top of a path is not deeper than its sink, so the difference of their depths is there.
 use mathlib.Core.Path.{_≡_, ap, _∙_}
 use mathlib.Core.List.{List, _++_}
@@ -17,10 +17,10 @@ use Rattle.site.specs.declared.Site.{Site}
 use Rattle.site.specs.declared.Verdict.the-variants.{Accepted}
 use Rattle.site.specs.Records.{noFlow}
 use Rattle.records.specs.Check.{checked}
-use Rattle.planner.specs.Numbers.{flowNumbers, periodsOf, descentIn}
-use Rattle.planner.specs.NumberLaws.{top-here, descent-here}
-use Rattle.planner.specs.SiteLaws.{flows-whole, counts-bounded, ends-there, describes-sound, parents-are}
-use Rattle.planner.proofs.numbers.figures_of.Tie as tie
+use Rattle.figures.specs.Numbers.{flowNumbers, periodsOf, descentIn}
+use Rattle.figures.specs.NumberLaws.{top-here, descent-here}
+use Rattle.figures.specs.SiteLaws.{flows-whole, counts-bounded, ends-there, describes-sound, parents-are}
+use Rattle.figures.proofs.figures_of.Tie as tie
 
 abbrev pub Inv-loop : tie.InvT-loop
 Inv-loop total parents cluster-count flow-count depths flows sources₀ sinks₀ deadlines₀ descents₀ shortest₀ i₀ sources sinks deadlines descents shortest i =

@@ -17,7 +17,7 @@ use Rattle.model.specs.Trees.{Tree, depth, top}
 use Rattle.model.specs.TreeLaws.{depth-step, top-same, top-first-up, top-second-up}
 use Rattle.site.specs.declared.Flow.{Flow}
 use Rattle.site.specs.Records.{noFlow}
-use Rattle.planner.specs.Numbers.{periodsOf, descentIn}
+use Rattle.figures.specs.Numbers.{periodsOf, descentIn}
 
 -- the part of a filled array that counts, where it was filled with h of each element
 pub filled-is-map : {A : Type 0} (g : ℕ → ℕ) (h : A → ℕ) (l : List ℕ) (xs : List A) (d : A) (n : ℕ) → n ≤ length l → length xs ≡ n

@@ -22,8 +22,8 @@ use Rattle.site.specs.declared.Verdict.the-variants.{Accepted}
 use Rattle.records.specs.Check.{checked}
 use Rattle.records.specs.Checked.{checked-unrefused, counts-in, cluster-tests, site-flow-in, clusters-reach, flows-reach}
 use Rattle.site.specs.Records.{absent, noFlow, wrongParent}
-use Rattle.planner.specs.Numbers.{parentsOf, portionsOf, flowNumbers, periodsOf, descentIn}
-use Rattle.planner.specs.NumberLaws.{filled-is-map}
+use Rattle.figures.specs.Numbers.{parentsOf, portionsOf, flowNumbers, periodsOf, descentIn}
+use Rattle.figures.specs.NumberLaws.{filled-is-map}
 
 -- ## Lists
 

@@ -1,4 +1,4 @@
--- What the planner takes from accepted records before it searches (docs/FORMATS.md, "The plan that is returned").
+-- What is taken from accepted records before the search (docs/FORMATS.md, "The plan that is returned").
 use mathlib.Core.List.{List, map}
 use Prim.Native.Nat.{ℕ, _-_}
 use lib.ListN.{take, getD, replicate}

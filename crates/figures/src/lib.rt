@@ -8,7 +8,7 @@ ghost use Rattle.plantext.specs.PlanText.{siteOf};
 ghost use Rattle.records.specs.Check.{checked};
 ghost use Rattle.search.specs.Posed.{Posed};
 ghost use Rattle.site.specs.declared.Verdict.the-variants.{Accepted};
-ghost use Rattle.planner.specs.Numbers.{parentsOf, portionsOf};
+ghost use Rattle.figures.specs.Numbers.{parentsOf, portionsOf};
 
 // The figures of accepted records, whose parents and sum of portions are known: those of the site
 // that they describe. A flow's descent is the depth of its sink less that of its path's top. The
