@@ -29,6 +29,7 @@ use Rattle.sequence.specs.Running.{sequenced-room}
 use Rattle.site.specs.declared.Entry.{Entry}
 use Rattle.site.specs.declared.Site.{Site}
 use Rattle.site.specs.declared.Tag.{Tag}
+use Rattle.site.specs.Lines.{tagAt}
 use Rattle.site.specs.Records.{sameTag, wrongParent}
 use Rattle.site.specs.Table.{due, entryOf}
 use Rattle.reader.specs.Reading.{readText}
@@ -93,6 +94,7 @@ pub record EqualResults : Type 0 where
   pub read : (text : List ℕ) → OneResult (readText text)
   pub check : (s : Site) → OneResult (checked s)
   pub «same_tag» : (a b : Tag) → OneResult (sameTag a b)
+  pub «tag_of» : (line : List ℕ) (len : ℕ) → OneResult (tagAt line 4 len)
   pub «line_start» : (text : List ℕ) (k : ℕ) → OneResult (lineStart text k)
   pub «line_at» : (text part₁ part₂ : RefT (List ℕ)) (k : ℕ) → Shown text part₁ k → Shown text part₂ k → (ptr part₁ ≡ ptr part₂) × (now part₁ ≡ now part₂)
   -- the tree, the flows' limits, the constraints, the clusters in order of start, and the search with its figures
@@ -148,6 +150,7 @@ results-are-equal = record {
   read = λ text. equal-results (readText text);
   check = λ s. equal-results (checked s);
   «same_tag» = λ a b. equal-results (sameTag a b);
+  «tag_of» = λ line len. equal-results (tagAt line 4 len);
   «line_start» = λ text k. equal-results (lineStart text k);
   «line_at» = λ text part₁ part₂ k p q.
       equal-results-in-room (ptr text .0, ptr text .1 + lineStart (now text) k) (lineAt (now text) k) (ptr part₁) (ptr part₂) (now part₁) (now part₂) (p .place, p .bytes) (q .place, q .bytes);

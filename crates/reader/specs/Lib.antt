@@ -3,7 +3,6 @@ pub mod Reading
 -- what tells tags apart while reading
 pub mod Prints
 -- laws of them, which the code and the theorems use
-pub mod LineTags
 pub mod PrintLaws
 pub mod ReadLaws
 pub mod LeftLaws

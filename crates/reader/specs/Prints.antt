@@ -1,12 +1,7 @@
--- A tag as it stands in a cluster line's bytes, and a number that tells most tags apart: equal tags have equal ones.
+-- A number that tells most tags apart: equal tags have equal ones.
 use mathlib.Core.List.{List}
 use Prim.Native.Nat.{ℕ, zero, suc, _+_, _*_, _%_}
-use lib.ListN.{getD, replicate}
-use Rattle.hexline.specs.Loops.{filled}
-
--- the 64 bytes behind the first four
-unfoldable pub tagBytes : List ℕ → List ℕ
-tagBytes b = filled (λ i. getD b (4 + i) 0) (replicate 64 0) 64
+use lib.ListN.{getD}
 
 -- four bytes as a number, low byte first
 unfoldable pub wordAt : List ℕ → ℕ → ℕ

@@ -1,7 +1,6 @@
 // The reader (docs/FORMATS.md, "Site text", "Refusal numbers"): any text in, its records by value or
 // its refusal out.
 mod prints;
-mod tags;
 
 use model::wide;
 use prints::first_alike;
@@ -14,7 +13,7 @@ use site::Tag;
 use site::Verdict;
 use site::due_at;
 use site::line_entry;
-use site::same_tag;
+use tags::same_tag;
 use tags::tag_of;
 ghost use mathlib.Core.Path.{_≡_};
 ghost use Rattle.site.specs.Records.{noCluster, noFlow, noSite};

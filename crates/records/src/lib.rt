@@ -12,7 +12,7 @@ use site::Site;
 use site::Tag;
 use site::Verdict;
 use site::bad_parent;
-use site::same_tag;
+use tags::same_tag;
 ghost use mathlib.Core.Path.{_≡_};
 ghost use Prim.Native.Nat.{_≤_};
 ghost use Rattle.site.specs.Records.{printableTag, clusterOutside, flowOutside};

@@ -6,6 +6,5 @@ pub mod Answers
 -- a theorem: what the line reader's answer says
 pub mod LineAnswers
 -- laws of them, which the code and the theorems use
-pub mod TagLaws
 pub mod LinesLaws
 pub mod TableLaws

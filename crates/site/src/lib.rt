@@ -1,13 +1,10 @@
 // Sites (docs/FORMATS.md, "Site text", "Refusal numbers"): the records and the line reader.
 mod line;
-mod tags;
 
 pub use line::bad_parent;
 pub use line::due_at;
 pub use line::line_entry;
 pub use line::read_line;
-pub use tags::counted;
-pub use tags::same_tag;
 
 // The limits of docs/FORMATS.md.
 pub const MOST_CLUSTERS: u8 = 64;

@@ -35,7 +35,7 @@ fn put_cluster(room: &mut [u8], at: usize, c: Cluster) -> usize
 {
     let tag = c.tag;
     let bytes = tag.bytes;
-    let n = site::counted(tag.len);
+    let n = tags::counted(tag.len);
     let widths = [1, 1, 1, 1];
     let values = [2, c.parent as u64, c.order as u64, tag.len as u64];
     hexroom::put_line(room, at, &widths, &values, &bytes[..n])
@@ -91,7 +91,7 @@ fn put_flows(room: &mut [u8], at: usize, flows: [Flow; 128], n: usize) -> usize
 fn cluster_size(c: Cluster) -> usize
     ensures { λ r. ⌜ (r ≡ length (lineOf (clusterBytes c))) × (r ≤ 137) ⌝ }
 {
-    9 + 2 * site::counted(c.tag.len)
+    9 + 2 * tags::counted(c.tag.len)
 }
 
 // How many bytes the lines of the first n clusters take.

@@ -9,7 +9,7 @@ use native.Mathlib.Omega.{arith}
 use Rattle.hexline.specs.Loops.{every-more}
 use Rattle.hexline.specs.LineLaws.{line-inside}
 use Rattle.site.specs.Records.{noSite}
-use Rattle.site.specs.TagLaws.{tag-is-taken, tag-not-taken}
+use Rattle.tags.specs.TagLaws.{tag-is-taken, tag-not-taken}
 use Rattle.reader.specs.Reading.{withHeader, withCluster, withFlow}
 use Rattle.reader.specs.ReadLaws.{header-is}
 use Rattle.reader.specs.LeftLaws.{left-refused, left-repeated, left-none, left-missing}

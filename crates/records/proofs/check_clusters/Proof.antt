@@ -8,7 +8,7 @@ use native.Mathlib.Omega.{arith}
 use lib.ListN.{getD}
 use Rattle.hexline.specs.Loops.{every, every-none, every-more}
 use Rattle.site.specs.Records.{absent, sameTag}
-use Rattle.site.specs.TagLaws.{tag-is-taken, tag-not-taken}
+use Rattle.tags.specs.TagLaws.{tag-is-taken, tag-not-taken}
 use Rattle.records.specs.Check.{clusterRefusal, firstBad, clustersVerdict}
 use Rattle.records.specs.CheckLaws.{bad-here, bad-later, bad-none, refused-by-4, refused-by-5, refused-by-6, refused-by-none}
 use borrow.Author.Needs.{needs}

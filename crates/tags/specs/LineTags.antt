@@ -14,7 +14,7 @@ use Rattle.hexbytes.specs.DecodeLaws.{decoded-at}
 use Rattle.hexline.specs.Digits.{byteAt}
 use Rattle.site.specs.declared.Tag.{Tag}
 use Rattle.site.specs.Lines.{tagAt}
-use Rattle.reader.specs.Prints.{tagBytes}
+use Rattle.tags.specs.TagBytes.{tagBytes}
 
 -- a tag whose first i bytes are filled in, and i is its length
 pub tag-made : (l : List ℕ) (k n : ℕ) (bytes : List ℕ) (i : ℕ) → bytes ≡ filled (λ j. byteAt l (k + j)) (replicate 64 0) i → i ≡ n

@@ -1,9 +1,9 @@
--- `reader::tags::tag_of` meets its contract: the bytes behind the first four are the tag's, with zeros behind them.
+-- `tags::tag_of` meets its contract: the bytes behind the first four are the tag's, with zeros behind them.
 use mathlib.Core.Path.{refl, _∙_}
-use Rattle.reader.specs.LineTags.{tag-made, decoded-tag}
+use Rattle.tags.specs.LineTags.{tag-made, decoded-tag}
 use borrow.Author.Needs.{needs}
-use Rattle.reader.proofs.tags.tag_of.Statement.{statement}
-use Rattle.reader.proofs.tags.tag_of.Tie as tie
+use Rattle.tags.proofs.tag_of.Statement.{statement}
+use Rattle.tags.proofs.tag_of.Tie as tie
 
 tag-bytes-requires : tie.Need-tag-bytes-requires
 tag-bytes-requires c κs = search needs

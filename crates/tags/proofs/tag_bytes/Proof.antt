@@ -1,13 +1,13 @@
--- `reader::tags::tag_bytes` meets its contract. The invariant: the first `i` bytes are copied.
+-- `tags::tag_bytes` meets its contract. The invariant: the first `i` bytes are copied.
 use mathlib.Core.Path.{_≡_, refl}
 use Prim.Native.Nat.{_+_, _-_, _≤_}
 use native.Mathlib.Omega.{arith}
 use lib.ListN.{getD, replicate}
 use Rattle.hexline.specs.Loops.{filled, filled-next}
-use Rattle.reader.specs.Prints.{tagBytes}
+use Rattle.tags.specs.TagBytes.{tagBytes}
 use borrow.Author.Needs.{needs}
-use Rattle.reader.proofs.tags.tag_bytes.Statement.{statement}
-use Rattle.reader.proofs.tags.tag_bytes.Tie as tie
+use Rattle.tags.proofs.tag_bytes.Statement.{statement}
+use Rattle.tags.proofs.tag_bytes.Tie as tie
 
 abbrev Inv-loop : tie.InvT-loop
 Inv-loop bytes tag₀ i₀ tag i = (i ≤ 64) × (tag ≡ filled (λ k. getD bytes (4 + k) 0) (replicate 64 0) i)
