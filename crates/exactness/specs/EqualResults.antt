@@ -18,6 +18,7 @@ use Rattle.model.specs.Counting.{at as numberIn, values}
 use Rattle.model.specs.Orders.{portion, interval, lengthAt, permitted}
 use Rattle.model.specs.Plans.{plan as planOf}
 use Rattle.model.specs.Trees.{depth, top as topOf}
+use Rattle.tree.specs.Lineage.{lineage, Lineages}
 use Rattle.constraints.specs.Entries.{blank, siteEntries, limitsOf}
 use Rattle.model.specs.Sites as model
 use Rattle.search.specs.declared.Figures.{Figures}
@@ -99,7 +100,9 @@ pub record EqualResults : Type 0 where
   pub «line_at» : (text part₁ part₂ : RefT (List ℕ)) (k : ℕ) → Shown text part₁ k → Shown text part₂ k → (ptr part₁ ≡ ptr part₂) × (now part₁ ≡ now part₂)
   -- the tree, the flows' limits, the constraints, the clusters in order of start, and the search with its figures
   pub depths : (parents : List ℕ) → OneResult (values (depth (numberIn parents)) 0 (length parents))
-  pub top : (parents : List ℕ) (a b : ℕ) → OneResult (topOf (numberIn parents) a b)
+  pub lineages : (parents : List ℕ) → OneResult (values (lineage (numberIn parents)) 0 (length parents))
+  pub top : (sets : List ℕ) (a b r₁ r₂ : ℕ) → ((parent : ℕ → ℕ) × Lineages parent sets)
+      → ((parent : ℕ → ℕ) → Lineages parent sets → r₁ ≡ topOf parent a b) → ((parent : ℕ → ℕ) → Lineages parent sets → r₂ ≡ topOf parent a b) → r₁ ≡ r₂
   pub «limit_flows» : (descents deadlines : List ℕ) (interval : ℕ) → OneResult (limitsOf descents deadlines interval)
   pub «constraint_at» : (place : ℕ) (parents sources sinks limits : List ℕ) → OneResult (getD (siteEntries parents sources sinks limits) place blank)
   pub sequence : (size : ℕ) (parent N : ℕ → ℕ) (room room₁ room₂ : List ℕ) (r₁ r₂ : ℕ) → Sequenced size parent N room room₁ r₁ → Sequenced size parent N room room₂ r₂ → (r₁ ≡ r₂) × (room₁ ≡ room₂)
@@ -155,7 +158,8 @@ results-are-equal = record {
   «line_at» = λ text part₁ part₂ k p q.
       equal-results-in-room (ptr text .0, ptr text .1 + lineStart (now text) k) (lineAt (now text) k) (ptr part₁) (ptr part₂) (now part₁) (now part₂) (p .place, p .bytes) (q .place, q .bytes);
   depths = λ parents. equal-results (values (depth (numberIn parents)) 0 (length parents));
-  top = λ parents a b. equal-results (topOf (numberIn parents) a b);
+  lineages = λ parents. equal-results (values (lineage (numberIn parents)) 0 (length parents));
+  top = λ sets a b r₁ r₂ w p q. equal-results (topOf (w .0) a b) r₁ r₂ (p (w .0) (w .1)) (q (w .0) (w .1));
   «limit_flows» = λ descents deadlines interval. equal-results (limitsOf descents deadlines interval);
   «constraint_at» = λ place parents sources sinks limits. equal-results (getD (siteEntries parents sources sinks limits) place blank);
   sequence = λ size parent N room room₁ room₂ r₁ r₂ p q. let placed = inOrder size parent N in

@@ -1,20 +1,17 @@
 -- What the loop over the flows wants: a filled array is a number of each record, one period more, and the depths of a path's top and its sink.
 use mathlib.Core.Path.{_≡_, sym, ap, _∙_}
 use mathlib.Core.List.{List, map}
-use mathlib.Core.Logic.{inl, inr}
-use Prim.Native.Nat.{ℕ, zero, suc, _+_, _-_, _≤_, _<_, min}
+use Prim.Native.Nat.{ℕ, _+_, _-_, _≤_, _<_, min}
 use native.Mathlib.Omega.{arith}
-use lib.Dec.{ltb, eqb}
 use lib.ListN.{length, getD, take, drop, length-map, List·getD-map, drop-of-length-le}
 use lib.Seq.{ext-getD, getD-take, length-take-le}
-use borrow.Author.Tests.{ltb-true, ltb-false, eqb-true, eqb-false}
 use Rattle.hexline.specs.Loops.{filled, filled-length, filled-at}
 use Rattle.model.specs.Counting.{at, values}
-use Rattle.model.specs.CountingLaws.{passes-or-fails, values-at}
+use Rattle.model.specs.CountingLaws.{values-at}
 use Rattle.model.specs.Orders.{shortest}
 use Rattle.model.specs.PlanLaws.{shortest-next}
 use Rattle.model.specs.Trees.{Tree, depth, top}
-use Rattle.model.specs.TreeLaws.{depth-step, top-same, top-first-up, top-second-up}
+use Rattle.tree.specs.TopLaws.{top-above}
 use Rattle.site.specs.declared.Flow.{Flow}
 use Rattle.site.specs.Records.{noFlow}
 use Rattle.figures.specs.Numbers.{periodsOf, descentIn}
@@ -41,27 +38,6 @@ module _ (flows : List Flow) (n i p : ℕ) where
   pub shortest-ends : n ≤ i → n ≤ length flows → shortest p (drop i (periodsOf flows n)) ≡ p
   unfolding periodsOf shortest
   shortest-ends l h = rw (drop-of-length-le (periodsOf flows n) {i = i} (omega (arith, length-map (take n flows) (λ (f : Flow). f .period), length-take-le n flows h)))
-
--- the top of a path is a cluster, and not deeper than the path's end
-module _ (parent : ℕ → ℕ) (n : ℕ) (tree : Tree parent n) where
-  abbrev Above : ℕ → ℕ → Type 0
-  Above z b = (z < n) × (depth parent z ≤ depth parent b)
-
-  above-within : (k a b : ℕ) → a + b ≤ k → a < n → b < n → Above (top parent a b) b
-  above-within zero a b m la lb = let e : a ≡ b = omega arith in rw (e, top-same parent n tree b) (lb, omega arith)
-  above-within (suc k) a b m la lb = elim (passes-or-fails (eqb a b)) [
-    | inl e ↦ rw (eqb-true a b e, top-same parent n tree b) (lb, omega arith)
-    | inr e ↦ let ne = eqb-false a b e in elim (passes-or-fails (ltb b a)) [
-      | inl f ↦ let h = ltb-true b a f in let t = tree a (omega arith) la in
-          rw (top-first-up parent n tree a b la lb h) (above-within k (parent a) b (omega arith) (omega arith) lb)
-      | inr f ↦ let h = ltb-false b a f in let t = tree b (omega arith) lb in
-          let up = above-within k a (parent b) (omega arith) la (omega arith) in
-          rw (top-second-up parent n tree a b la lb (omega arith)) (up .0, omega (arith, up .1, depth-step parent n tree b (omega arith) lb))
-    ]
-  ]
-
-  pub top-above : (a b : ℕ) → a < n → b < n → Above (top parent a b) b
-  top-above a b la lb = above-within (a + b) a b (omega arith) la lb
 
 -- a tree's depths at the front of an array, and a flow between two clusters, with the top z of its path
 module _ (ps levels : List ℕ) (tree : Tree (at ps) (length ps)) (deep : take (length ps) levels ≡ values (depth (at ps)) 0 (length ps)) where

@@ -22,6 +22,8 @@ pub fn figures_of(site: Site, parents: [u8; 64], total: u32) -> Figures
     let flow_count = wide(site.flow_count);
     let mut depths = [0; 64];
     tree::depths(&parents[..cluster_count], &mut depths[..cluster_count]);
+    let mut lineages = [0u64; 64];
+    tree::lineages(&parents[..cluster_count], &mut lineages[..cluster_count]);
     let flows = site.flows;
     let mut sources = [0; 128];
     let mut sinks = [0; 128];
@@ -39,7 +41,7 @@ pub fn figures_of(site: Site, parents: [u8; 64], total: u32) -> Figures
         if flow.period < shortest {
             shortest = flow.period;
         }
-        let top = tree::top(&parents[..cluster_count], source, sink);
+        let top = tree::top(&lineages[..cluster_count], source, sink);
         descents[i] = depths[sink] - depths[top];
         i += 1;
     }

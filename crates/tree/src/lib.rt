@@ -1,10 +1,11 @@
 // The tree of clusters as a slice of parents: depths, and the top of a path (docs/FORMATS.md,
 // "Allowed and actual crossings").
 ghost use mathlib.Core.Path.{_≡_};
-ghost use Prim.Native.Nat.{_≤_, _<_};
+ghost use Prim.Native.Nat.{ℕ, _≤_, _<_};
 ghost use lib.ListN.{length};
 ghost use Rattle.model.specs.Counting.{at as numberIn, values};
 ghost use Rattle.model.specs.Trees.{Tree, depth, top as topOf};
+ghost use Rattle.tree.specs.Lineage.{lineage, Lineages};
 
 // Fills `out` with the depth of each cluster, counted from 0 at the root: a parent has a lower
 // number, so its depth is there before its children's.
@@ -24,18 +25,29 @@ pub fn depths(parents: &[u8], out: &mut [u8])
     }
 }
 
-// The lowest cluster that is an ancestor of both ends: of two different clusters the
-// higher-numbered one is no ancestor of the other, so it is left for its parent.
-pub fn top(parents: &[u8], mut a: usize, mut b: usize) -> usize
-    requires { ⌜ (a < length (now parents)) × (b < length (now parents)) × Tree (numberIn (now parents)) (length (now parents)) ⌝ }
-    ensures { λ r. ⌜ r ≡ topOf (numberIn (now (parents .entry))) a b ⌝ }
+// Fills `out` with each cluster and its ancestors as a set: bit i of a number is cluster i. So what
+// two clusters share is one operation.
+pub fn lineages(parents: &[u8], out: &mut [u64])
+    requires { ⌜ (length (now parents) ≤ 64) × (length (now out) ≡ length (now parents)) × Tree (numberIn (now parents)) (length (now parents)) ⌝ }
+    ensures { λ r. ⌜ now (out .exit) ≡ values (lineage (numberIn (now (parents .entry)))) 0 (length (now (parents .entry))) ⌝ }
 {
-    while a != b {
-        if b < a {
-            a = parents[a] as usize;
-        } else {
-            b = parents[b] as usize;
-        }
+    if parents.len() == 0 {
+        return;
     }
-    a
+    out[0] = 1;
+    let mut c: usize = 1;
+    while c < parents.len() {
+        let parent = parents[c] as usize;
+        out[c] = out[parent] + (1u64 << c);
+        c += 1;
+    }
+}
+
+// The lowest cluster of a tree that is an ancestor of both ends: the highest-numbered one of those
+// that are in both lineages.
+pub fn top(lineages: &[u64], a: usize, b: usize) -> usize
+    requires { ⌜ (length (now lineages) ≤ 64) × (a < length (now lineages)) × (b < length (now lineages)) × ((parent : ℕ → ℕ) × Lineages parent (now lineages)) ⌝ }
+    ensures { λ r. ⌜ ((parent : ℕ → ℕ) → Lineages parent (now (lineages .entry)) → r ≡ topOf parent a b) ⌝ }
+{
+    63 - u64::leading_zeros(lineages[a] & lineages[b]) as usize
 }

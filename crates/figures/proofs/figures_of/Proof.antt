@@ -9,7 +9,7 @@ use Rattle.model.specs.Relaxing.{depths as depthsOf}
 use Rattle.figures.specs.NumberLaws.{shortest-more, shortest-ends}
 use Rattle.figures.specs.SiteLaws.{counts-bounded, clusters-counted, flows-counted, describes-sound, total-is, numbers-are, descents-are, permits-alike}
 use borrow.Author.Needs.{needs}
-use Rattle.figures.proofs.figures_of.Proof.Turns.{Inv-loop, μ-loop, zeros, start, site, f, accepted, n-is, f-is, n-bounded, f-bounded, f-whole, parents-fit, parents-number, parents-here, tree, counted, levels-are, was, first, running, ends-here, ends-fit, turn, top-there, difference}
+use Rattle.figures.proofs.figures_of.Proof.Turns.{Inv-loop, μ-loop, zeros, start, site, f, accepted, n-is, f-is, n-bounded, f-bounded, f-whole, parents-fit, parents-number, parents-here, tree, counted, levels-are, deep, sets-fit, sets-number, sets-are, was, grown, first, running, ends-here, ends-fit, turn, top-there, difference}
 use Rattle.figures.proofs.figures_of.Statement.{statement}
 use Rattle.figures.proofs.figures_of.Tie as tie
 
@@ -34,6 +34,24 @@ slice-aggregate-depths-2 c = sym (length-take-le _ zeros (n-bounded (c .before .
 depths-requires : tie.Need-depths-requires Inv-loop μ-loop
 depths-requires c κs =
     let first = c .before .before in
+    let number = parents-number first in
+    (omega (arith, number, n-bounded first), length-take-le _ zeros (n-bounded first) ∙ sym number, tree first)
+
+array-share-prefix-parents-2 : tie.Need-array-share-prefix-parents-2 Inv-loop μ-loop
+array-share-prefix-parents-2 c = parents-fit (counted (c .before))
+
+slice-aggregate-lineages : tie.Need-slice-aggregate-lineages Inv-loop μ-loop
+slice-aggregate-lineages c = sym (parents-number (counted (c .before .before)))
+
+array-borrow-prefix-lineages : tie.Need-array-borrow-prefix-lineages Inv-loop μ-loop
+array-borrow-prefix-lineages c = n-bounded (counted (c .before .before))
+
+slice-aggregate-lineages-2 : tie.Need-slice-aggregate-lineages-2 Inv-loop μ-loop
+slice-aggregate-lineages-2 c = sym (length-take-le _ zeros (n-bounded (counted (c .before .before .before))))
+
+lineages-requires : tie.Need-lineages-requires Inv-loop μ-loop
+lineages-requires c κs =
+    let first = counted (c .before .before .before) in
     let number = parents-number first in
     (omega (arith, number, n-bounded first), length-take-le _ zeros (n-bounded first) ∙ sym number, tree first)
 
@@ -71,16 +89,18 @@ mul-deadlines c = omega (arith, f-bounded (first (c .before .before .before)))
 array-write-deadlines : tie.Need-array-write-deadlines Inv-loop μ-loop
 array-write-deadlines c = omega (arith, f-bounded (first (c .before .before .before)))
 
-array-share-prefix-parents-2 : tie.Need-array-share-prefix-parents-2 Inv-loop μ-loop
-array-share-prefix-parents-2 c = parents-fit (first (c .before .before .before .before .before))
+array-share-prefix-lineages : tie.Need-array-share-prefix-lineages Inv-loop μ-loop
+array-share-prefix-lineages c = sets-fit (grown (c .before .before .before .before .before))
 
 slice-aggregate-top : tie.Need-slice-aggregate-top Inv-loop μ-loop
-slice-aggregate-top c = sym (parents-number (first (c .before .before .before .before .before .before)))
+slice-aggregate-top c = sym (sets-number (grown (c .before .before .before .before .before .before)))
 
 top-requires : tie.Need-top-requires Inv-loop μ-loop
 top-requires c κs =
     let here = c .before .before .before .before .before .before in
-    (ends-here here .0, ends-here here .1, tree (first here))
+    let number = sets-number (grown here) in
+    let same = parents-number (first here) in
+    (omega (arith, number, n-bounded (first here)), omega (arith, ends-here here .0, number, same), omega (arith, ends-here here .1, number, same), (_, sets-are (grown here)))
 
 array-read-descents : tie.Need-array-read-descents Inv-loop μ-loop
 array-read-descents c = omega (arith, ends-fit (turn c) .1)
@@ -117,7 +137,7 @@ returns : tie.Need-returns Inv-loop μ-loop
 unfolding depthsOf
 returns c =
     let inv = c .before .loop .inv in
-    let deep = c .before .before .before .before in
+    let deep = deep (c .before .before .before .before) in
     let first = counted deep in
     let site = site first in
     let accepted = accepted first in
@@ -152,6 +172,11 @@ figures-of-spec =
     array-borrow-prefix-depths
     slice-aggregate-depths-2
     depths-requires
+    array-share-prefix-parents-2
+    slice-aggregate-lineages
+    array-borrow-prefix-lineages
+    slice-aggregate-lineages-2
+    lineages-requires
     loop-holds
     mul-flow
     array-copy-out-flow
@@ -163,7 +188,7 @@ figures-of-spec =
     array-write-sinks
     mul-deadlines
     array-write-deadlines
-    array-share-prefix-parents-2
+    array-share-prefix-lineages
     slice-aggregate-top
     top-requires
     array-read-descents

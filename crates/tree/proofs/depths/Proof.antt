@@ -1,16 +1,13 @@
 -- `tree::depths` meets its contract. The invariant: the depths of the clusters below `c` stand in `out`. The parent of `c` is one of them, so
 -- its depth is there, and is at most its number, so that one more fits a byte.
-use mathlib.Core.Path.{_≡_, sym, ap, _∙_}
-use mathlib.Core.List.{List}
+use mathlib.Core.Path.{_≡_, sym}
 use Prim.Native.Nat.{ℕ, _+_, _-_, _≤_, _<_}
 use native.Mathlib.Omega.{arith}
-use lib.ListN.{length, set, length-set}
-use lib.Seq.{getD-set-same, getD-set-other, ext-getD}
-use Rattle.model.specs.Counting.{at, values}
-use Rattle.model.specs.CountingLaws.{values-length, values-at}
+use lib.ListN.{length, length-set}
+use Rattle.model.specs.Counting.{at}
 use Rattle.model.specs.Trees.{depth}
 use Rattle.model.specs.TreeLaws.{depth-root, depth-step, depth-at-most}
-use borrow.Author.Count.{below-more}
+use Rattle.tree.specs.FillLaws.{filled, one-more}
 use borrow.Author.Needs.{needs}
 use Rattle.tree.proofs.depths.Statement.{statement}
 use Rattle.tree.proofs.depths.Tie as tie
@@ -20,13 +17,6 @@ Inv-loop parents out₀ c₀ out c = (1 ≤ c) × (c ≤ length parents) × (len
 
 abbrev μ-loop : tie.MeasureT-loop
 μ-loop parents out₀ c₀ out c = length parents - c
-
--- a list whose entries are those of f
-filled : (f : ℕ → ℕ) (l : List ℕ) (n : ℕ) → length l ≡ n → ((k : ℕ) → k < n → at l k ≡ f k) → l ≡ values f 0 n
-filled f l n e h = ext-getD 0 l (values f 0 n) (e ∙ sym (values-length f 0 n)) (λ k g. h k (omega arith) ∙ sym (values-at f 0 n k (omega arith) ∙ ap f (omega arith)))
-
-one-more : (f : ℕ → ℕ) (l : List ℕ) (c v : ℕ) → c < length l → v ≡ f c → ((k : ℕ) → k < c → at l k ≡ f k) → (k : ℕ) → k < c + 1 → at (set l c v) k ≡ f k
-one-more f l c v h e below = below-more _ c (λ k g. getD-set-other l c k v 0 (omega arith) ∙ below k g) (getD-set-same l c v 0 h ∙ e)
 
 -- a turn of the loop
 abbrev Turn : Type 0

@@ -1,86 +1,66 @@
--- `tree::top` meets its contract. The invariant: both clusters are in the tree, and their top is that of the first two. A turn leaves the
--- higher-numbered one for its parent, which has a lower number, so the sum of the two falls.
-use mathlib.Core.Path.{_≡_, refl, sym, _∙_}
-use Prim.Native.Nat.{_+_, _<_}
+-- `tree::top` meets its contract: what the two lineages share is the lineage of the top, and its highest bit is the top's.
+use mathlib.Core.Path.{_≡_}
+use mathlib.Core.List.{List}
+use Prim.Native.Nat.{ℕ, suc, _+_, _^_, _≤_, _<_}
 use native.Mathlib.Omega.{arith}
+use lib.Bits.{bitAnd}
+use lib.Count.{leadingZeros, leading-le}
 use lib.ListN.{length}
 use Rattle.model.specs.Counting.{at}
 use Rattle.model.specs.Trees.{top as topOf}
-use Rattle.model.specs.TreeLaws.{top-same, top-first-up, top-second-up}
+use Rattle.tree.specs.Lineage.{Lineages}
+use Rattle.tree.specs.LineageLaws.{top-by-zeros}
 use borrow.Author.Needs.{needs}
 use Rattle.tree.proofs.top.Statement.{statement}
 use Rattle.tree.proofs.top.Tie as tie
 
-abbrev Inv-loop : tie.InvT-loop
-Inv-loop parents a₀ b₀ a b = (a < length parents) × (b < length parents) × (topOf (at parents) a b ≡ topOf (at parents) a₀ b₀)
+few-zeros : (m : ℕ) → leadingZeros 64 m < 2 ^ 64
+few-zeros m = omega (arith, leading-le 64 m)
 
-abbrev μ-loop : tie.MeasureT-loop
-μ-loop parents a₀ b₀ a b = a + b
+-- with both sets read
+module _ (c : tie.After-shared-slice-known2) where
+  abbrev start : tie.Start
+  start = c .before .before
 
--- a turn of the loop: its first cluster's parent, or its second's, has a lower number
-abbrev Turn : Type 0
-Turn = tie.In-loop Inv-loop μ-loop
+  abbrev sets : List ℕ
+  sets = start .args .lineages .now
 
-first-falls : (turn : Turn) → turn .before .loop .b < turn .before .loop .a → at (turn .before .before .args .parents .now) (turn .before .loop .a) < turn .before .loop .a
-first-falls turn h = turn .before .before .pre .2 (turn .before .loop .a) (omega arith) (turn .before .loop .inv .0)
+  zeros : (parent : ℕ → ℕ) → Lineages parent sets → leadingZeros 64 (bitAnd (at sets (start .args .a)) (at sets (start .args .b))) + suc (topOf parent (start .args .a) (start .args .b)) ≡ 64
+  zeros parent h = top-by-zeros parent sets h (start .pre .0) (start .args .a) (start .args .b) (start .pre .1) (start .pre .2)
 
-second-falls : (turn : Turn) → turn .before .loop .a < turn .before .loop .b → at (turn .before .before .args .parents .now) (turn .before .loop .b) < turn .before .loop .b
-second-falls turn h = turn .before .before .pre .2 (turn .before .loop .b) (omega arith) (turn .before .loop .inv .1)
+  -- every two clusters share some ancestor
+  some-shared : (x y : ℕ) → x < length sets → y < length sets → leadingZeros 64 (bitAnd (at sets x) (at sets y)) ≤ 63
+  some-shared x y lx ly = omega (arith, top-by-zeros (start .pre .3 .0) sets (start .pre .3 .1) (start .pre .0) x y lx ly)
 
-loop-holds : tie.Need-loop-holds Inv-loop μ-loop
-loop-holds c = (search needs, search needs, refl)
+mul-result : tie.Need-mul-result
+mul-result c = search needs
 
-shared-slice-read-a : tie.Need-shared-slice-read-a Inv-loop μ-loop
-shared-slice-read-a c = search needs
+shared-slice-read-result : tie.Need-shared-slice-read-result
+shared-slice-read-result c = search needs
 
-cast-a : tie.Need-cast-a Inv-loop μ-loop
-cast-a c = omega (arith, c .shared-slice-known .given (c .before .before .before .loop .a))
+mul-result-2 : tie.Need-mul-result-2
+mul-result-2 c = search needs
 
-loop-less : tie.Need-loop-less Inv-loop μ-loop
-loop-less c = omega (arith, first-falls (c .before .before) (c .before .if1 .taken))
+shared-slice-read-result-2 : tie.Need-shared-slice-read-result-2
+shared-slice-read-result-2 c = search needs
 
-loop-again : tie.Need-loop-again Inv-loop μ-loop
-loop-again c =
-    let turn = c .before .before in
-    let h = c .before .if1 .taken in
-    let inv = turn .before .loop .inv in
-    (omega (arith, first-falls turn h), inv .1, sym (top-first-up _ _ (turn .before .before .pre .2) _ _ (inv .0) (inv .1) h) ∙ inv .2)
+cast-result : tie.Need-cast-result
+cast-result c = record { fits = few-zeros _ }
 
-shared-slice-read-b : tie.Need-shared-slice-read-b Inv-loop μ-loop
-shared-slice-read-b c = search needs
+sub-result : tie.Need-sub-result
+sub-result c = some-shared c _ _ (omega (arith, start c .pre .1)) (omega (arith, start c .pre .1, start c .pre .2))
 
-cast-b : tie.Need-cast-b Inv-loop μ-loop
-cast-b c = omega (arith, c .shared-slice-known2 .given (c .before .before .before .loop .b))
-
-loop-less-2 : tie.Need-loop-less-2 Inv-loop μ-loop
-loop-less-2 c = omega (arith, second-falls (c .before .before) (omega arith))
-
-loop-again-2 : tie.Need-loop-again-2 Inv-loop μ-loop
-loop-again-2 c =
-    let turn = c .before .before in
-    let h : turn .before .loop .a < turn .before .loop .b = omega arith in
-    let inv = turn .before .loop .inv in
-    (inv .0, omega (arith, second-falls turn h), sym (top-second-up _ _ (turn .before .before .pre .2) _ _ (inv .0) (inv .1) h) ∙ inv .2)
-
-returns : tie.Need-returns Inv-loop μ-loop
-returns c =
-    let inv = c .before .loop .inv in
-    let met : c .before .loop .a ≡ c .before .loop .b = omega arith in
-    sym (top-same _ _ (c .before .before .pre .2) _) ∙ (rw (sym met) at (inv .2))
+returns : tie.Need-returns
+returns c parent h = omega (arith, zeros c parent h)
 
 pub top-spec : {M : Type 1} → statement M
 top-spec =
     tie.close
     (tie.spec
-    Inv-loop
-    μ-loop
-    loop-holds
-    shared-slice-read-a
-    cast-a
-    loop-less
-    loop-again
-    shared-slice-read-b
-    cast-b
-    loop-less-2
-    loop-again-2
+    mul-result
+    shared-slice-read-result
+    mul-result-2
+    shared-slice-read-result-2
+    cast-result
+    sub-result
     returns)

@@ -1,16 +1,17 @@
 -- The loop of `figures::figures_of`, and what is known before it and in a turn. The invariant: the numbers of the flows before `i` are filled in, and the least of the period so far
 -- and those of the flows from `i` on is the least of all. The top of a path is not deeper than its sink, so the difference of their depths is there.
-use mathlib.Core.Path.{_≡_, ap, _∙_}
+use mathlib.Core.Path.{_≡_, sym, ap, _∙_}
 use mathlib.Core.List.{List, _++_}
 use Prim.Native.Nat.{ℕ, _-_, _≤_, _<_}
 use native.Mathlib.Omega.{arith}
-use lib.ListN.{length, getD, take, drop, replicate}
+use lib.ListN.{length, getD, take, drop, replicate, length-append}
 use lib.Seq.{length-take-le, take-at}
 use Rattle.hexline.specs.Loops.{filled-length}
 use Rattle.model.specs.Counting.{at, values}
 use Rattle.model.specs.Orders.{shortest as least}
 use Rattle.model.specs.Sites as model
-use Rattle.model.specs.Trees.{Tree, depth}
+use Rattle.model.specs.Trees.{Tree, depth, top as topOf}
+use Rattle.tree.specs.Lineage.{lineage, Lineages}
 use Rattle.plantext.specs.PlanText.{siteOf}
 use Rattle.site.specs.declared.Flow.{Flow}
 use Rattle.site.specs.declared.Site.{Site}
@@ -23,7 +24,7 @@ use Rattle.figures.specs.SiteLaws.{flows-whole, counts-bounded, ends-the
 use Rattle.figures.proofs.figures_of.Tie as tie
 
 abbrev pub Inv-loop : tie.InvT-loop
-Inv-loop total parents cluster-count flow-count depths flows sources₀ sinks₀ deadlines₀ descents₀ shortest₀ i₀ sources sinks deadlines descents shortest i =
+Inv-loop total parents cluster-count flow-count depths lineages flows sources₀ sinks₀ deadlines₀ descents₀ shortest₀ i₀ sources sinks deadlines descents shortest i =
     (i ≤ flow-count)
     × (sources ≡ flowNumbers (λ f. f .source) flows i)
     × (sinks ≡ flowNumbers (λ f. f .sink) flows i)
@@ -32,7 +33,7 @@ Inv-loop total parents cluster-count flow-count depths flows sources₀ sinks₀
     × (least shortest (drop i (periodsOf flows flow-count)) ≡ least 1000000000 (periodsOf flows flow-count))
 
 abbrev pub μ-loop : tie.MeasureT-loop
-μ-loop total parents cluster-count flow-count depths flows sources₀ sinks₀ deadlines₀ descents₀ shortest₀ i₀ sources sinks deadlines descents shortest i = flow-count - i
+μ-loop total parents cluster-count flow-count depths lineages flows sources₀ sinks₀ deadlines₀ descents₀ shortest₀ i₀ sources sinks deadlines descents shortest i = flow-count - i
 
 abbrev pub zeros : List ℕ
 zeros = replicate 64 0
@@ -101,16 +102,47 @@ module _ (c : tie.After-depths2 Inv-loop μ-loop) where
   levels-front : take (length (parents counted)) levels ≡ values (depth (at (parents counted))) 0 (length (parents counted))
   levels-front = ap (λ (k : ℕ). take k levels) (parents-number counted) ∙ levels-are
 
+-- and once the lineages are
+module _ (c : tie.After-lineages2 Inv-loop μ-loop) where
+  abbrev pub deep : tie.After-depths2 Inv-loop μ-loop
+  deep = c .before .before .before .before
+
+  abbrev written : List ℕ
+  written = c .lineages2 .last .1 .0
+
+  abbrev array : List ℕ
+  array = written ++ drop (n (counted deep)) zeros
+
+  abbrev pub sets : List ℕ
+  sets = take (n (counted deep)) array
+
+  whole : length written ≡ n (counted deep)
+  whole = c .lineages2 .kept .1 .0 ∙ length-take-le _ zeros (n-bounded (counted deep))
+
+  pub sets-fit : n (counted deep) ≤ length array
+  sets-fit = omega (arith, whole, length-append written (drop (n (counted deep)) zeros))
+
+  front : sets ≡ written
+  front = take-at written (drop (n (counted deep)) zeros) (n (counted deep)) whole
+
+  pub sets-number : length sets ≡ n (counted deep)
+  sets-number = ap length front ∙ whole
+
+  pub sets-are : Lineages (at (parents (counted deep))) sets
+  sets-are =
+      let same : length sets ≡ length (parents (counted deep)) = sets-number ∙ sym (parents-number (counted deep)) in
+      record { tree = rw same (tree (counted deep)); each = front ∙ c .lineages2 .ensures ∙ ap (values (lineage (at (parents (counted deep)))) 0) (sym same) }
+
 -- in a turn: both ends of the flow are clusters
 module _ (c : tie.In-loop Inv-loop μ-loop) where
   abbrev pub was : tie.At-loop Inv-loop μ-loop
   was = c .before
 
-  abbrev deep : tie.After-depths2 Inv-loop μ-loop
-  deep = was .before .before .before
+  abbrev pub grown : tie.After-lineages2 Inv-loop μ-loop
+  grown = was .before .before .before
 
   abbrev pub first : tie.After-wide2 Inv-loop μ-loop
-  first = counted deep
+  first = counted (deep grown)
 
   abbrev flow : Flow
   flow = getD (site first .flows) (was .loop .i) noFlow
@@ -134,8 +166,11 @@ module _ (c : tie.After-top Inv-loop μ-loop) where
   abbrev pub turn : tie.In-loop Inv-loop μ-loop
   turn = c .before .before .before .before .before .before .before
 
-  pub top-there : (c .top .result < length (parents (first turn))) × (at (levels (deep turn)) (c .top .result) ≤ at (levels (deep turn)) (flow turn .sink))
-  top-there = top-here (parents (first turn)) (levels (deep turn)) (tree (first turn)) (levels-front (deep turn)) (flow turn) _ (ends-here turn .0) (ends-here turn .1) (c .top .ensures)
+  tops : c .top .result ≡ topOf (at (parents (first turn))) (flow turn .source) (flow turn .sink)
+  tops = c .top .ensures _ (sets-are (grown turn))
 
-  pub difference : at (levels (deep turn)) (flow turn .sink) - at (levels (deep turn)) (c .top .result) ≡ descentIn (parents (first turn)) (flow turn)
-  difference = descent-here (parents (first turn)) (levels (deep turn)) (tree (first turn)) (levels-front (deep turn)) (flow turn) _ (ends-here turn .0) (ends-here turn .1) (c .top .ensures)
+  pub top-there : (c .top .result < length (parents (first turn))) × (at (levels (deep (grown turn))) (c .top .result) ≤ at (levels (deep (grown turn))) (flow turn .sink))
+  top-there = top-here (parents (first turn)) (levels (deep (grown turn))) (tree (first turn)) (levels-front (deep (grown turn))) (flow turn) _ (ends-here turn .0) (ends-here turn .1) tops
+
+  pub difference : at (levels (deep (grown turn))) (flow turn .sink) - at (levels (deep (grown turn))) (c .top .result) ≡ descentIn (parents (first turn)) (flow turn)
+  difference = descent-here (parents (first turn)) (levels (deep (grown turn))) (tree (first turn)) (levels-front (deep (grown turn))) (flow turn) _ (ends-here turn .0) (ends-here turn .1) tops

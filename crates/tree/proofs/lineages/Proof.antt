@@ -1,0 +1,124 @@
+-- `tree::lineages` meets its contract. The invariant: the lineages of the clusters below `c` stand in `out`. The parent of `c` is one of them, and
+-- no number of its lineage is above its own, so the bit of `c` is added without a carry.
+use mathlib.Core.Path.{_≡_, sym}
+use Prim.Native.Nat.{ℕ, suc, _+_, _-_, _*_, _%_, _^_, _≤_, _<_}
+use native.Mathlib.Omega.{arith}
+use lib.Dec.{lit<}
+use lib.ListN.{length, length-set}
+use lib.Pow.{pow-mono, shl-exact}
+use Rattle.model.specs.Counting.{at}
+use Rattle.tree.specs.FillLaws.{filled, one-more}
+use Rattle.tree.specs.Lineage.{lineage}
+use Rattle.tree.specs.LineageLaws.{lineage-root, lineage-step, lineage-highest}
+use borrow.Author.Needs.{needs}
+use Rattle.tree.proofs.lineages.Statement.{statement}
+use Rattle.tree.proofs.lineages.Tie as tie
+
+abbrev Inv-loop : tie.InvT-loop
+Inv-loop parents out₀ c₀ out c = (1 ≤ c) × (c ≤ length parents) × (length out ≡ length parents) × ((k : ℕ) → k < c → at out k ≡ lineage (at parents) k)
+
+abbrev μ-loop : tie.MeasureT-loop
+μ-loop parents out₀ c₀ out c = length parents - c
+
+-- a turn of the loop
+abbrev Turn : Type 0
+Turn = tie.After-shared-slice-known Inv-loop μ-loop
+
+abbrev cluster : Turn → ℕ
+cluster turn = turn .before .before .loop .c
+
+abbrev parent : Turn → ℕ → ℕ
+parent turn = at (turn .before .before .before .before .args .parents .now)
+
+earlier : (turn : Turn) → parent turn (cluster turn) < cluster turn
+earlier turn = turn .before .before .before .before .pre .2 (cluster turn) (omega arith) (turn .before .loop-test .taken)
+
+low : (turn : Turn) → cluster turn < 64
+low turn = omega (arith, turn .before .before .before .before .pre .0, turn .before .loop-test .taken)
+
+-- what stands at the parent is its lineage
+there : (turn : Turn) → at (turn .before .before .loop .out) (parent turn (cluster turn)) ≡ lineage (parent turn) (parent turn (cluster turn))
+there turn = turn .before .before .loop .inv .3 _ (earlier turn)
+
+shifted : (turn : Turn) → (1 * 2 ^ cluster turn) % 2 ^ 64 ≡ 2 ^ cluster turn
+shifted turn = omega (arith, shl-exact {a = 1} 1 (cluster turn) 64 (lit< tt) (omega (arith, low turn)))
+
+one-longer : (turn : Turn) → at (turn .before .before .loop .out) (parent turn (cluster turn)) + 2 ^ cluster turn ≡ lineage (parent turn) (cluster turn)
+one-longer turn = omega (arith, there turn, lineage-step (parent turn) _ (turn .before .before .before .before .pre .2) (cluster turn) (omega arith) (turn .before .loop-test .taken))
+
+fits : (turn : Turn) → lineage (parent turn) (cluster turn) < 2 ^ 64
+fits turn = omega (arith, lineage-highest (parent turn) _ (turn .before .before .before .before .pre .2) (cluster turn) (turn .before .loop-test .taken) .1, pow-mono {i = suc (cluster turn)} {j = 64} (omega (arith, low turn)))
+
+returns : tie.Need-returns Inv-loop μ-loop
+returns c = filled _ _ _ (c .before .pre .1) (λ k h. omega arith)
+
+slice-write-out : tie.Need-slice-write-out Inv-loop μ-loop
+slice-write-out c = search needs
+
+loop-holds : tie.Need-loop-holds Inv-loop μ-loop
+loop-holds c = (search needs, search needs, search needs, one-more _ (c .before .args .out .now) 0 1 (omega arith) (sym (lineage-root _)) (λ k h. omega arith))
+
+shared-slice-read-parent : tie.Need-shared-slice-read-parent Inv-loop μ-loop
+shared-slice-read-parent c = search needs
+
+cast-parent : tie.Need-cast-parent Inv-loop μ-loop
+cast-parent c = omega (arith, c .shared-slice-known .given (cluster c))
+
+mul-out : tie.Need-mul-out Inv-loop μ-loop
+mul-out c = omega (arith, earlier c, low c)
+
+slice-read-out : tie.Need-slice-read-out Inv-loop μ-loop
+slice-read-out c = omega (arith, earlier (c .before))
+
+shl-out : tie.Need-shl-out Inv-loop μ-loop
+shl-out c = omega (arith, low (c .before))
+
+add-out : tie.Need-add-out Inv-loop μ-loop
+add-out c = omega (arith, shifted (c .before), one-longer (c .before), fits (c .before))
+
+mul-out-2 : tie.Need-mul-out-2 Inv-loop μ-loop
+mul-out-2 c = omega (arith, low (c .before))
+
+slice-write-out-2 : tie.Need-slice-write-out-2 Inv-loop μ-loop
+slice-write-out-2 c = search needs
+
+add-c : tie.Need-add-c Inv-loop μ-loop
+add-c c = search needs
+
+loop-less : tie.Need-loop-less Inv-loop μ-loop
+loop-less c = search needs
+
+loop-again : tie.Need-loop-again Inv-loop μ-loop
+loop-again c =
+    let turn = c .before in
+    let inv = turn .before .before .loop .inv in
+    (search needs, search needs, simp length-set (inv .2), one-more _ (turn .before .before .loop .out) (cluster turn) _ (omega arith) (omega (arith, shifted turn, one-longer turn)) (inv .3))
+
+same-length : tie.Need-same-length Inv-loop μ-loop
+same-length c = search needs
+
+returns-2 : tie.Need-returns-2 Inv-loop μ-loop
+returns-2 c = filled _ _ _ (c .before .loop .inv .2) (λ k h. c .before .loop .inv .3 k (omega arith))
+
+pub lineages-spec : {M : Type 1} → statement M
+lineages-spec =
+    tie.close
+    (tie.spec
+    Inv-loop
+    μ-loop
+    returns
+    slice-write-out
+    loop-holds
+    shared-slice-read-parent
+    cast-parent
+    mul-out
+    slice-read-out
+    shl-out
+    add-out
+    mul-out-2
+    slice-write-out-2
+    add-c
+    loop-less
+    loop-again
+    same-length
+    returns-2)
