@@ -1,8 +1,10 @@
 // The constraints on N, each at its place of a list, and the limits of the flows that they are made
 // with (docs/FORMATS.md, "The plan that is returned").
+use model::Order;
 ghost use mathlib.Core.Path.{_≡_};
 ghost use Prim.Native.Nat.{_+_, _-_, _*_, _/_, _≤_, _<_};
 ghost use lib.ListN.{length, getD};
+ghost use Rattle.model.specs.Orders.{largest, interval};
 ghost use Rattle.constraints.specs.Entries.{blank, siteEntries, limitsOf, Shallow};
 
 // N(to) - N(from) is at most a limit, which may be below 0: `credit` is BIAS above it. All three
@@ -15,27 +17,29 @@ pub struct Constraint {
 
 pub const BIAS: u32 = 64;
 
-// The crossed periods that a deadline allows: one less than the whole intervals in it, or 0.
-fn allowed(deadline: u32, interval: u32) -> u32
-    requires { ⌜ 0 < interval ⌝ }
-    ensures { λ r. ⌜ r ≡ deadline / interval - 1 ⌝ }
+// The crossed periods that a deadline allows at an order: one less than the whole intervals in it, or
+// 0. An interval is the base doubled as often as the order says, so no division is by a number that
+// only a site tells.
+fn allowed(deadline: u32, order: u8) -> u32
+    requires { ⌜ order ≤ largest ⌝ }
+    ensures { λ r. ⌜ r ≡ deadline / interval order - 1 ⌝ }
 {
-    let intervals = deadline / interval;
+    let intervals = (deadline / Order::BASE) >> order;
     if intervals == 0 {
         return 0;
     }
     intervals - 1
 }
 
-// Turns deadlines into the limits of their flows at an interval, in place: `limits` holds the
-// deadlines at first.
-pub fn limit_flows(descents: &[u8], interval: u32, limits: &mut [u32])
-    requires { ⌜ (1 < interval) × Shallow (now descents) × (length (now limits) ≡ length (now descents)) ⌝ }
-    ensures { λ r. ⌜ now (limits .exit) ≡ limitsOf (now (descents .entry)) (now (limits .entry)) interval ⌝ }
+// Turns deadlines into the limits of their flows at an order, in place: `limits` holds the deadlines
+// at first.
+pub fn limit_flows(descents: &[u8], order: u8, limits: &mut [u32])
+    requires { ⌜ (order ≤ largest) × Shallow (now descents) × (length (now limits) ≡ length (now descents)) ⌝ }
+    ensures { λ r. ⌜ now (limits .exit) ≡ limitsOf (now (descents .entry)) (now (limits .entry)) (interval order) ⌝ }
 {
     let mut flow: usize = 0;
     while flow < limits.len() {
-        limits[flow] = allowed(limits[flow], interval) + BIAS - descents[flow] as u32;
+        limits[flow] = allowed(limits[flow], order) + BIAS - descents[flow] as u32;
         flow += 1;
     }
 }

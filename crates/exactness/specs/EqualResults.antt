@@ -103,7 +103,7 @@ pub record EqualResults : Type 0 where
   pub lineages : (parents : List ℕ) → OneResult (values (lineage (numberIn parents)) 0 (length parents))
   pub top : (sets : List ℕ) (a b r₁ r₂ : ℕ) → ((parent : ℕ → ℕ) × Lineages parent sets)
       → ((parent : ℕ → ℕ) → Lineages parent sets → r₁ ≡ topOf parent a b) → ((parent : ℕ → ℕ) → Lineages parent sets → r₂ ≡ topOf parent a b) → r₁ ≡ r₂
-  pub «limit_flows» : (descents deadlines : List ℕ) (interval : ℕ) → OneResult (limitsOf descents deadlines interval)
+  pub «limit_flows» : (descents deadlines : List ℕ) (order : ℕ) → OneResult (limitsOf descents deadlines (interval order))
   pub «constraint_at» : (place : ℕ) (parents sources sinks limits : List ℕ) → OneResult (getD (siteEntries parents sources sinks limits) place blank)
   pub sequence : (size : ℕ) (parent N : ℕ → ℕ) (room room₁ room₂ : List ℕ) (r₁ r₂ : ℕ) → Sequenced size parent N room room₁ r₁ → Sequenced size parent N room room₂ r₂ → (r₁ ≡ r₂) × (room₁ ≡ room₂)
   pub search : (figures : Figures) (before counts₁ counts₂ : List ℕ) (r₁ r₂ : Found) → ((s : model.Site) × Posed s figures)
@@ -160,7 +160,7 @@ results-are-equal = record {
   depths = λ parents. equal-results (values (depth (numberIn parents)) 0 (length parents));
   lineages = λ parents. equal-results (values (lineage (numberIn parents)) 0 (length parents));
   top = λ sets a b r₁ r₂ w p q. equal-results (topOf (w .0) a b) r₁ r₂ (p (w .0) (w .1)) (q (w .0) (w .1));
-  «limit_flows» = λ descents deadlines interval. equal-results (limitsOf descents deadlines interval);
+  «limit_flows» = λ descents deadlines order. equal-results (limitsOf descents deadlines (interval order));
   «constraint_at» = λ place parents sources sinks limits. equal-results (getD (siteEntries parents sources sinks limits) place blank);
   sequence = λ size parent N room room₁ room₂ r₁ r₂ p q. let placed = inOrder size parent N in
       equal-results-in-room (length placed) (placed ++ drop (length placed) room) r₁ r₂ room₁ room₂ (p .number, sequenced-room size parent N room room₁ r₁ p) (q .number, sequenced-room size parent N room room₂ r₂ q);

@@ -21,7 +21,7 @@ pub interval-grows : {order larger : ℕ} → order ≤ larger → interval orde
 unfolding symbols
 interval-grows h = mul-le-mul-left base (pow-mono h)
 
-pub interval-positive : (order : ℕ) → 960 ≤ interval order
+interval-positive : (order : ℕ) → 960 ≤ interval order
 unfolding symbols
 interval-positive order = mul-le-mul-left base (pow-mono {i = 0} {j = order} (omega arith))
 

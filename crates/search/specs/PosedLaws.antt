@@ -92,12 +92,12 @@ module _ (s : Site) (figures : Figures) (w : Posed s figures) where
   descents-shallow = rw (w .descents-are) (each-descent s (w .sound) (w .few) (s .flows) (w .sound .ends))
 
   -- the entries made with the limits at an order's interval say the site's constraints, biased
-  module _ (order p : ℕ) (limits : List ℕ) (e : limits ≡ limitsOf ds es p) (q : p ≡ interval order) where
+  module _ (order : ℕ) (limits : List ℕ) (e : limits ≡ limitsOf ds es (interval order)) where
     abbrev list : List Constraint
     list = map meaning (siteEntries ps ss ts limits)
 
     entries-say : list ≡ map biased (constraints s order)
-    entries-say = rw (e, q, w .parents-are, w .sources-are, w .sinks-are, w .descents-are, w .deadlines-are) (site-entries-say s order)
+    entries-say = rw (e, w .parents-are, w .sources-are, w .sinks-are, w .descents-are, w .deadlines-are) (site-entries-say s order)
 
     -- their clusters are the site's
     pub list-within : (n : ℕ) → n ≡ size s → Each (Within n) list

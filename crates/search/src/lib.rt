@@ -87,7 +87,7 @@ fn probe(order: Order, figures: Figures, counts: &mut [u8]) -> Settling
     let flows = figures.flow_count;
     let descents = figures.descents;
     let mut limits = figures.deadlines;
-    constraints::limit_flows(&descents[..flows], order.interval(), &mut limits[..flows]);
+    constraints::limit_flows(&descents[..flows], order.number, &mut limits[..flows]);
     let parents = figures.parents;
     let sources = figures.sources;
     let sinks = figures.sinks;

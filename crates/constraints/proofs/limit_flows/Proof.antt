@@ -5,10 +5,12 @@ use Prim.Native.Nat.{ℕ, _+_, _-_, _/_, _^_, _≤_, _<_}
 use native.Mathlib.Nat.{div-lt-iff-lt-mul}
 use native.Mathlib.Omega.{arith}
 use lib.ListN.{length, take}
+use lib.Pow.{pow-pos}
 use lib.Seq.{take-all, getD-set-other}
 use mir.Syntax.{w32}
 use mir.Val.{Fits}
 use Rattle.model.specs.Counting.{at}
+use Rattle.model.specs.Orders.{symbols, interval}
 use Rattle.constraints.specs.Entries.{limitsOf}
 use Rattle.constraints.specs.EntryLaws.{limits-length, limits-next}
 use borrow.Author.Needs.{needs}
@@ -16,11 +18,11 @@ use Rattle.constraints.proofs.limit_flows.Statement.{statement}
 use Rattle.constraints.proofs.limit_flows.Tie as tie
 
 abbrev Inv-loop : tie.InvT-loop
-Inv-loop descents interval limits₀ flow₀ limits flow =
-    (flow ≤ length limits₀) × (length limits ≡ length limits₀) × (take flow limits ≡ take flow (limitsOf descents limits₀ interval)) × ((k : ℕ) → flow ≤ k → at limits k ≡ at limits₀ k)
+Inv-loop descents order limits₀ flow₀ limits flow =
+    (flow ≤ length limits₀) × (length limits ≡ length limits₀) × (take flow limits ≡ take flow (limitsOf descents limits₀ (interval order))) × ((k : ℕ) → flow ≤ k → at limits k ≡ at limits₀ k)
 
 abbrev μ-loop : tie.MeasureT-loop
-μ-loop descents interval limits₀ flow₀ limits flow = length limits₀ - flow
+μ-loop descents order limits₀ flow₀ limits flow = length limits₀ - flow
 
 -- a turn of the loop, after the allowed crossings are known
 abbrev Turn : Type 0
@@ -35,12 +37,15 @@ start turn = was turn .before .before .before
 abbrev flow : Turn → ℕ
 flow turn = was turn .loop .flow
 
--- a deadline of 32 bits allows few crossings at an interval above 1
-crossings-few : (d p r : ℕ) → 1 < p → Fits w32 d → r ≡ d / p - 1 → r < 2 ^ 31
-crossings-few d p r h f e = let q : d / p < 2 ^ 31 = div-lt-iff-lt-mul {k = p} {x = d} {y = 2 ^ 31} (omega arith) .1 (omega arith) in omega arith
+-- a deadline of 32 bits allows few crossings
+crossings-few : (d o r : ℕ) → Fits w32 d → r ≡ d / interval o - 1 → r < 2 ^ 31
+unfolding symbols
+crossings-few d o r f e =
+    let q : d / interval o < 2 ^ 31 = div-lt-iff-lt-mul {k = interval o} {x = d} {y = 2 ^ 31} (omega (arith, pow-pos o)) .1 (omega (arith, pow-pos o)) in
+    omega arith
 
 allowed-few : (turn : Turn) → turn .allowed .result < 2 ^ 31
-allowed-few turn = crossings-few _ _ _ (start turn .pre .0) (turn .before .slice-known2 .given _) (turn .allowed .ensures)
+allowed-few turn = crossings-few _ _ _ (turn .before .slice-known2 .given _) (turn .allowed .ensures)
 
 shallow : (turn : Turn) → at (start turn .args .descents .now) (flow turn) ≤ 63
 shallow turn = start turn .pre .1 (flow turn) (omega arith)
@@ -86,8 +91,8 @@ loop-again c =
     let turn = c .before in
     let a = start turn .args in
     let inv = was turn .loop .inv in
-    let allowed-here = turn .allowed .ensures ∙ ap (λ (deadline : ℕ). deadline / a .interval - 1) (inv .3 (flow turn) (omega arith)) in
-    let next = limits-next (a .descents .now) (a .limits .now) (a .interval) (flow turn) _ (was turn .loop .limits) (omega arith) (omega arith) (omega arith) (ap (λ (n : ℕ). n + 64 - at (a .descents .now) (flow turn)) allowed-here) (inv .2) in
+    let allowed-here = turn .allowed .ensures ∙ ap (λ (deadline : ℕ). deadline / interval (a .order) - 1) (inv .3 (flow turn) (omega arith)) in
+    let next = limits-next (a .descents .now) (a .limits .now) (interval (a .order)) (flow turn) _ (was turn .loop .limits) (omega arith) (omega arith) (omega arith) (ap (λ (n : ℕ). n + 64 - at (a .descents .now) (flow turn)) allowed-here) (inv .2) in
     (search needs, search needs, next, λ k l. getD-set-other (was turn .loop .limits) (flow turn) k _ 0 (λ e. omega arith) ∙ inv .3 k (omega arith))
 
 same-length : tie.Need-same-length Inv-loop μ-loop
@@ -96,9 +101,9 @@ same-length c = search needs
 returns : tie.Need-returns Inv-loop μ-loop
 returns c =
     let a = c .before .before .before .before .args in
-    let limits = limitsOf (a .descents .now) (a .limits .now) (a .interval) in
+    let limits = limitsOf (a .descents .now) (a .limits .now) (interval (a .order)) in
     let flow = c .before .loop .flow in
-    sym (take-all flow (c .before .loop .limits) (omega arith)) ∙ c .before .loop .inv .2 ∙ take-all flow limits (omega (arith, limits-length (a .descents .now) (a .limits .now) (a .interval) (omega arith)))
+    sym (take-all flow (c .before .loop .limits) (omega arith)) ∙ c .before .loop .inv .2 ∙ take-all flow limits (omega (arith, limits-length (a .descents .now) (a .limits .now) (interval (a .order)) (omega arith)))
 
 pub limit-flows-spec : {M : Type 1} → statement M
 limit-flows-spec =

@@ -7,14 +7,12 @@ use native.Mathlib.Omega.{arith}
 use lib.ListN.{length, take, drop}
 use lib.Seq.{length-take-le, length-front, take-at}
 use Rattle.model.specs.Orders.{interval}
-use Rattle.model.specs.OrderLaws.{order-has-length}
 use Rattle.model.specs.Relaxing.{solve}
 use Rattle.model.specs.Sites.{Site}
 use Rattle.constraints.specs.Entries.{limitsOf}
 use Rattle.relaxing.specs.declared.Settling.{Settling}
 use Rattle.relaxing.specs.Steps.{settledAs}
 use Rattle.search.specs.declared.Figures.{Figures}
-use Rattle.search.specs.Monotone.{interval-positive}
 use Rattle.search.specs.Posed.{Posed, countsAfter}
 use Rattle.search.specs.PosedLaws.{clusters-fit, flows-fit, parents-reach, depths-reach, sources-reach, sinks-reach, descents-reach, deadlines-reach, descents-shallow, list-within, list-settles, copied}
 use borrow.Author.Needs.{needs}
@@ -41,13 +39,10 @@ module _ (c : tie.After-limits) where
 -- once the limits are there: they are the array's front
 module _ (c : tie.After-limit-flows) where
   abbrev lent : tie.After-limits
-  lent = c .before .before .before .before
+  lent = c .before .before .before
 
   abbrev limits : List ℕ
   limits = c .limit-flows .last .1 .1 .0 ++ drop (flows lent) (figures lent .deadlines)
-
-  length-is : c .before .before .interval .result ≡ interval (start lent .args .order .number)
-  length-is = c .before .before .interval .ensures ∙ order-has-length interval _ (start lent .pre .0)
 
   limits-fit : flows lent ≤ length limits
   limits-fit = omega (arith, deadlines-reach _ _ (posed lent) .fits, length-front (figures lent .deadlines) (c .limit-flows .last .1 .1 .0) (flows lent) (c .limit-flows .kept .1 .1 .0))
@@ -55,7 +50,7 @@ module _ (c : tie.After-limit-flows) where
   limits-number : length (take (flows lent) limits) ≡ flows lent
   limits-number = length-take-le (flows lent) limits limits-fit
 
-  limits-are : take (flows lent) limits ≡ limitsOf (take (flows lent) (figures lent .descents)) (take (flows lent) (figures lent .deadlines)) (c .before .before .interval .result)
+  limits-are : take (flows lent) limits ≡ limitsOf (take (flows lent) (figures lent .descents)) (take (flows lent) (figures lent .deadlines)) (interval (start lent .args .order .number))
   limits-are =
       take-at _ (drop (flows lent) (figures lent .deadlines)) (flows lent) (c .limit-flows .kept .1 .1 .0 ∙ deadlines-reach _ _ (posed lent) .number)
       ∙ c .limit-flows .ensures
@@ -92,7 +87,7 @@ module _ (c : tie.After-settle) where
   trial-fits = omega (arith, depths-reach _ _ (posed begun) .fits, length-front (figures begun .depths) trial (clusters begun) (c .settle .kept .1 .1 .1 .1 .0))
 
   solves-as : (s : Site) → Posed s (figures begun) → {r : Settling} → c .settle .result ≡ r → solve s (start begun .args .order .number) ≡ settledAs r trial
-  solves-as s p e = sym (list-settles s _ p _ _ _ (limits-are (made ready)) (length-is (made ready))) ∙ c .settle .ensures .0 ∙ ap (λ (r : Settling). settledAs r trial) e
+  solves-as s p e = sym (list-settles s _ p _ _ (limits-are (made ready))) ∙ c .settle .ensures .0 ∙ ap (λ (r : Settling). settledAs r trial) e
 
 array-share-prefix-descents : tie.Need-array-share-prefix-descents
 array-share-prefix-descents c = descents-reach _ _ (posed c) .fits
@@ -100,23 +95,16 @@ array-share-prefix-descents c = descents-reach _ _ (posed c) .fits
 slice-aggregate-limit-flows : tie.Need-slice-aggregate-limit-flows
 slice-aggregate-limit-flows c = sym (descents-reach _ _ (posed (c .before)) .number)
 
-interval-requires : tie.Need-interval-requires
-interval-requires c κs = search needs
-
 array-borrow-prefix-limits : tie.Need-array-borrow-prefix-limits
-array-borrow-prefix-limits c = deadlines-reach _ _ (posed (c .before .before)) .fits
+array-borrow-prefix-limits c = deadlines-reach _ _ (posed (c .before)) .fits
 
 slice-aggregate-limit-flows-2 : tie.Need-slice-aggregate-limit-flows-2
-slice-aggregate-limit-flows-2 c = sym (deadlines-reach _ _ (posed (c .before .before .before)) .number)
+slice-aggregate-limit-flows-2 c = sym (deadlines-reach _ _ (posed (c .before .before)) .number)
 
 limit-flows-requires : tie.Need-limit-flows-requires
 limit-flows-requires c κs =
-    let lent = c .before .before .before in
-    let length-is : c .before .interval .result ≡ interval (start lent .args .order .number) = c .before .interval .ensures ∙ order-has-length interval _ (start lent .pre .0) in (
-      omega (arith, length-is, interval-positive (start lent .args .order .number)),
-      descents-shallow _ _ (posed lent),
-      deadlines-reach _ _ (posed lent) .number ∙ sym (descents-reach _ _ (posed lent) .number),
-    )
+    let lent = c .before .before in
+    (start lent .pre .0, descents-shallow _ _ (posed lent), deadlines-reach _ _ (posed lent) .number ∙ sym (descents-reach _ _ (posed lent) .number))
 
 array-share-prefix-parents : tie.Need-array-share-prefix-parents
 array-share-prefix-parents c = parents-reach _ _ (posed (first c)) .fits
@@ -161,7 +149,7 @@ settle-requires c κs =
         sinks-reach _ _ posed .number ∙ sym sources,
         limits-number made ∙ sym sources,
       ),
-      list-within _ _ posed _ _ _ (limits-are made) (length-is made) _ (depths-reach _ _ posed .number ∙ posed .clusters-counted),
+      list-within _ _ posed _ _ (limits-are made) _ (depths-reach _ _ posed .number ∙ posed .clusters-counted),
     )
 
 enum-told : tie.Need-enum-told
@@ -208,7 +196,6 @@ probe-spec =
     (tie.spec
     array-share-prefix-descents
     slice-aggregate-limit-flows
-    interval-requires
     array-borrow-prefix-limits
     slice-aggregate-limit-flows-2
     limit-flows-requires
