@@ -99,8 +99,7 @@ pub record EqualResults : Type 0 where
   pub «line_start» : (text : List ℕ) (k : ℕ) → OneResult (lineStart text k)
   pub «line_at» : (text part₁ part₂ : RefT (List ℕ)) (k : ℕ) → Shown text part₁ k → Shown text part₂ k → (ptr part₁ ≡ ptr part₂) × (now part₁ ≡ now part₂)
   -- the tree, the flows' limits, the constraints, the clusters in order of start, and the search with its figures
-  pub depths : (parents : List ℕ) → OneResult (values (depth (numberIn parents)) 0 (length parents))
-  pub lineages : (parents : List ℕ) → OneResult (values (lineage (numberIn parents)) 0 (length parents))
+  pub climb : (parents : List ℕ) → OneResultInRoom (values (depth (numberIn parents)) 0 (length parents)) (values (lineage (numberIn parents)) 0 (length parents))
   pub top : (sets : List ℕ) (a b r₁ r₂ : ℕ) → ((parent : ℕ → ℕ) × Lineages parent sets)
       → ((parent : ℕ → ℕ) → Lineages parent sets → r₁ ≡ topOf parent a b) → ((parent : ℕ → ℕ) → Lineages parent sets → r₂ ≡ topOf parent a b) → r₁ ≡ r₂
   pub «limit_flows» : (descents deadlines : List ℕ) (order : ℕ) → OneResult (limitsOf descents deadlines (interval order))
@@ -157,8 +156,7 @@ results-are-equal = record {
   «line_start» = λ text k. equal-results (lineStart text k);
   «line_at» = λ text part₁ part₂ k p q.
       equal-results-in-room (ptr text .0, ptr text .1 + lineStart (now text) k) (lineAt (now text) k) (ptr part₁) (ptr part₂) (now part₁) (now part₂) (p .place, p .bytes) (q .place, q .bytes);
-  depths = λ parents. equal-results (values (depth (numberIn parents)) 0 (length parents));
-  lineages = λ parents. equal-results (values (lineage (numberIn parents)) 0 (length parents));
+  climb = λ parents. equal-results-in-room (values (depth (numberIn parents)) 0 (length parents)) (values (lineage (numberIn parents)) 0 (length parents));
   top = λ sets a b r₁ r₂ w p q. equal-results (topOf (w .0) a b) r₁ r₂ (p (w .0) (w .1)) (q (w .0) (w .1));
   «limit_flows» = λ descents deadlines order. equal-results (limitsOf descents deadlines (interval order));
   «constraint_at» = λ place parents sources sinks limits. equal-results (getD (siteEntries parents sources sinks limits) place blank);

@@ -21,9 +21,12 @@ pub fn figures_of(site: Site, parents: [u8; 64], total: u32) -> Figures
     let cluster_count = wide(site.cluster_count);
     let flow_count = wide(site.flow_count);
     let mut depths = [0; 64];
-    tree::depths(&parents[..cluster_count], &mut depths[..cluster_count]);
-    let mut lineages = [0u64; 64];
-    tree::lineages(&parents[..cluster_count], &mut lineages[..cluster_count]);
+    let mut lineages = [0; 64];
+    tree::climb(
+        &parents[..cluster_count],
+        &mut depths[..cluster_count],
+        &mut lineages[..cluster_count],
+    );
     let flows = site.flows;
     let mut sources = [0; 128];
     let mut sinks = [0; 128];

@@ -1,5 +1,5 @@
-// The tree of clusters as a slice of parents: depths, and the top of a path (docs/FORMATS.md,
-// "Allowed and actual crossings").
+// The tree of clusters as a slice of parents: depths, ancestors, and the top of a path
+// (docs/FORMATS.md, "Allowed and actual crossings").
 ghost use mathlib.Core.Path.{_≡_};
 ghost use Prim.Native.Nat.{ℕ, _≤_, _<_};
 ghost use lib.ListN.{length};
@@ -7,38 +7,23 @@ ghost use Rattle.model.specs.Counting.{at as numberIn, values};
 ghost use Rattle.model.specs.Trees.{Tree, depth, top as topOf};
 ghost use Rattle.tree.specs.Lineage.{lineage, Lineages};
 
-// Fills `out` with the depth of each cluster, counted from 0 at the root: a parent has a lower
-// number, so its depth is there before its children's.
-pub fn depths(parents: &[u8], out: &mut [u8])
-    requires { ⌜ (length (now parents) ≤ 64) × (length (now out) ≡ length (now parents)) × Tree (numberIn (now parents)) (length (now parents)) ⌝ }
-    ensures { λ r. ⌜ now (out .exit) ≡ values (depth (numberIn (now (parents .entry)))) 0 (length (now (parents .entry))) ⌝ }
+// Fills `depths` with the depth of each cluster, counted from 0 at the root, and `lineages` with each
+// cluster and its ancestors as a set: bit i of a number is cluster i, so that what two clusters share
+// is one operation. A parent has a lower number, so its own are there before its children's.
+pub fn climb(parents: &[u8], depths: &mut [u8], lineages: &mut [u64])
+    requires { ⌜ (length (now parents) ≤ 64) × (length (now depths) ≡ length (now parents)) × (length (now lineages) ≡ length (now parents)) × Tree (numberIn (now parents)) (length (now parents)) ⌝ }
+    ensures { λ r. ⌜ (now (depths .exit) ≡ values (depth (numberIn (now (parents .entry)))) 0 (length (now (parents .entry)))) × (now (lineages .exit) ≡ values (lineage (numberIn (now (parents .entry)))) 0 (length (now (parents .entry)))) ⌝ }
 {
     if parents.len() == 0 {
         return;
     }
-    out[0] = 0;
+    depths[0] = 0;
+    lineages[0] = 1;
     let mut c: usize = 1;
     while c < parents.len() {
         let parent = parents[c] as usize;
-        out[c] = out[parent] + 1;
-        c += 1;
-    }
-}
-
-// Fills `out` with each cluster and its ancestors as a set: bit i of a number is cluster i. So what
-// two clusters share is one operation.
-pub fn lineages(parents: &[u8], out: &mut [u64])
-    requires { ⌜ (length (now parents) ≤ 64) × (length (now out) ≡ length (now parents)) × Tree (numberIn (now parents)) (length (now parents)) ⌝ }
-    ensures { λ r. ⌜ now (out .exit) ≡ values (lineage (numberIn (now (parents .entry)))) 0 (length (now (parents .entry))) ⌝ }
-{
-    if parents.len() == 0 {
-        return;
-    }
-    out[0] = 1;
-    let mut c: usize = 1;
-    while c < parents.len() {
-        let parent = parents[c] as usize;
-        out[c] = out[parent] + (1u64 << c);
+        depths[c] = depths[parent] + 1;
+        lineages[c] = lineages[parent] + (1u64 << c);
         c += 1;
     }
 }

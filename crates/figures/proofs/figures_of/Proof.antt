@@ -9,7 +9,7 @@ use Rattle.model.specs.Relaxing.{depths as depthsOf}
 use Rattle.figures.specs.NumberLaws.{shortest-more, shortest-ends}
 use Rattle.figures.specs.SiteLaws.{counts-bounded, clusters-counted, flows-counted, describes-sound, total-is, numbers-are, descents-are, permits-alike}
 use borrow.Author.Needs.{needs}
-use Rattle.figures.proofs.figures_of.Proof.Turns.{Inv-loop, μ-loop, zeros, start, site, f, accepted, n-is, f-is, n-bounded, f-bounded, f-whole, parents-fit, parents-number, parents-here, tree, counted, levels-are, deep, sets-fit, sets-number, sets-are, was, grown, first, running, ends-here, ends-fit, turn, top-there, difference}
+use Rattle.figures.proofs.figures_of.Proof.Turns.{Inv-loop, μ-loop, zeros, start, site, f, accepted, n-is, f-is, n-bounded, f-bounded, f-whole, parents-fit, parents-number, parents-here, tree, counted, levels-are, sets-fit, sets-number, sets-are, was, climbed, first, running, ends-here, ends-fit, turn, top-there, difference}
 use Rattle.figures.proofs.figures_of.Statement.{statement}
 use Rattle.figures.proofs.figures_of.Tie as tie
 
@@ -22,38 +22,27 @@ wide-requires-2 c κs = search needs
 array-share-prefix-parents : tie.Need-array-share-prefix-parents Inv-loop μ-loop
 array-share-prefix-parents c = parents-fit c
 
-slice-aggregate-depths : tie.Need-slice-aggregate-depths Inv-loop μ-loop
-slice-aggregate-depths c = sym (parents-number (c .before))
+slice-aggregate-climb : tie.Need-slice-aggregate-climb Inv-loop μ-loop
+slice-aggregate-climb c = sym (parents-number (c .before))
 
 array-borrow-prefix-depths : tie.Need-array-borrow-prefix-depths Inv-loop μ-loop
 array-borrow-prefix-depths c = n-bounded (c .before)
 
-slice-aggregate-depths-2 : tie.Need-slice-aggregate-depths-2 Inv-loop μ-loop
-slice-aggregate-depths-2 c = sym (length-take-le _ zeros (n-bounded (c .before .before)))
-
-depths-requires : tie.Need-depths-requires Inv-loop μ-loop
-depths-requires c κs =
-    let first = c .before .before in
-    let number = parents-number first in
-    (omega (arith, number, n-bounded first), length-take-le _ zeros (n-bounded first) ∙ sym number, tree first)
-
-array-share-prefix-parents-2 : tie.Need-array-share-prefix-parents-2 Inv-loop μ-loop
-array-share-prefix-parents-2 c = parents-fit (counted (c .before))
-
-slice-aggregate-lineages : tie.Need-slice-aggregate-lineages Inv-loop μ-loop
-slice-aggregate-lineages c = sym (parents-number (counted (c .before .before)))
+slice-aggregate-climb-2 : tie.Need-slice-aggregate-climb-2 Inv-loop μ-loop
+slice-aggregate-climb-2 c = sym (length-take-le _ zeros (n-bounded (c .before .before)))
 
 array-borrow-prefix-lineages : tie.Need-array-borrow-prefix-lineages Inv-loop μ-loop
-array-borrow-prefix-lineages c = n-bounded (counted (c .before .before))
+array-borrow-prefix-lineages c = n-bounded (c .before .before)
 
-slice-aggregate-lineages-2 : tie.Need-slice-aggregate-lineages-2 Inv-loop μ-loop
-slice-aggregate-lineages-2 c = sym (length-take-le _ zeros (n-bounded (counted (c .before .before .before))))
+slice-aggregate-climb-3 : tie.Need-slice-aggregate-climb-3 Inv-loop μ-loop
+slice-aggregate-climb-3 c = sym (length-take-le _ zeros (n-bounded (c .before .before .before)))
 
-lineages-requires : tie.Need-lineages-requires Inv-loop μ-loop
-lineages-requires c κs =
-    let first = counted (c .before .before .before) in
+climb-requires : tie.Need-climb-requires Inv-loop μ-loop
+climb-requires c κs =
+    let first = c .before .before .before in
     let number = parents-number first in
-    (omega (arith, number, n-bounded first), length-take-le _ zeros (n-bounded first) ∙ sym number, tree first)
+    let room = length-take-le _ zeros (n-bounded first) ∙ sym number in
+    (omega (arith, number, n-bounded first), room, room, tree first)
 
 loop-holds : tie.Need-loop-holds Inv-loop μ-loop
 unfolding filled
@@ -90,17 +79,17 @@ array-write-deadlines : tie.Need-array-write-deadlines Inv-loop μ-loop
 array-write-deadlines c = omega (arith, f-bounded (first (c .before .before .before)))
 
 array-share-prefix-lineages : tie.Need-array-share-prefix-lineages Inv-loop μ-loop
-array-share-prefix-lineages c = sets-fit (grown (c .before .before .before .before .before))
+array-share-prefix-lineages c = sets-fit (climbed (c .before .before .before .before .before))
 
 slice-aggregate-top : tie.Need-slice-aggregate-top Inv-loop μ-loop
-slice-aggregate-top c = sym (sets-number (grown (c .before .before .before .before .before .before)))
+slice-aggregate-top c = sym (sets-number (climbed (c .before .before .before .before .before .before)))
 
 top-requires : tie.Need-top-requires Inv-loop μ-loop
 top-requires c κs =
     let here = c .before .before .before .before .before .before in
-    let number = sets-number (grown here) in
+    let number = sets-number (climbed here) in
     let same = parents-number (first here) in
-    (omega (arith, number, n-bounded (first here)), omega (arith, ends-here here .0, number, same), omega (arith, ends-here here .1, number, same), (_, sets-are (grown here)))
+    (omega (arith, number, n-bounded (first here)), omega (arith, ends-here here .0, number, same), omega (arith, ends-here here .1, number, same), (_, sets-are (climbed here)))
 
 array-read-descents : tie.Need-array-read-descents Inv-loop μ-loop
 array-read-descents c = omega (arith, ends-fit (turn c) .1)
@@ -137,8 +126,8 @@ returns : tie.Need-returns Inv-loop μ-loop
 unfolding depthsOf
 returns c =
     let inv = c .before .loop .inv in
-    let deep = deep (c .before .before .before .before) in
-    let first = counted deep in
+    let climbed = c .before .before .before .before .before in
+    let first = counted climbed in
     let site = site first in
     let accepted = accepted first in
     let all : c .before .loop .i ≡ f first = omega arith in
@@ -150,7 +139,7 @@ returns c =
       clusters-counted = n-is first ∙ sym (clusters-counted site accepted);
       flows-counted = f-is first ∙ sym (flows-counted site accepted);
       parents-are = parents-here first;
-      depths-are = levels-are deep ∙ rw (parents-here first);
+      depths-are = levels-are climbed ∙ rw (parents-here first);
       sources-are = numbers-are site accepted (f first) (f-is first) (λ g. g .source) _ (rw all at (inv .1));
       sinks-are = numbers-are site accepted (f first) (f-is first) (λ g. g .sink) _ (rw all at (inv .2));
       descents-are = descents-are site accepted (f first) (f-is first) _ _ (parents-here first) (rw all at (inv .4));
@@ -168,15 +157,12 @@ figures-of-spec =
     wide-requires
     wide-requires-2
     array-share-prefix-parents
-    slice-aggregate-depths
+    slice-aggregate-climb
     array-borrow-prefix-depths
-    slice-aggregate-depths-2
-    depths-requires
-    array-share-prefix-parents-2
-    slice-aggregate-lineages
+    slice-aggregate-climb-2
     array-borrow-prefix-lineages
-    slice-aggregate-lineages-2
-    lineages-requires
+    slice-aggregate-climb-3
+    climb-requires
     loop-holds
     mul-flow
     array-copy-out-flow

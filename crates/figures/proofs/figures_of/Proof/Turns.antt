@@ -88,61 +88,54 @@ module _ (c : tie.After-wide2 Inv-loop μ-loop) where
   pub tree : Tree (at parents) (length parents)
   tree = rw parents-here (describes-sound site accepted .tree)
 
--- once the depths are there: they are the array's front
-module _ (c : tie.After-depths2 Inv-loop μ-loop) where
+-- once the depths and the lineages are there: they are their arrays' fronts
+module _ (c : tie.After-climb Inv-loop μ-loop) where
   abbrev pub counted : tie.After-wide2 Inv-loop μ-loop
-  counted = c .before .before .before
+  counted = c .before .before .before .before
+
+  -- what an array begins with
+  front : (filled : List ℕ) → length filled ≡ length (take (n counted) zeros) → take (n counted) (filled ++ drop (n counted) zeros) ≡ filled
+  front filled e = take-at filled (drop (n counted) zeros) (n counted) (e ∙ length-take-le _ zeros (n-bounded counted))
 
   abbrev levels : List ℕ
-  levels = c .depths2 .last .1 .0 ++ drop (n counted) zeros
+  levels = c .climb .last .1 .0 ++ drop (n counted) zeros
 
   pub levels-are : take (n counted) levels ≡ values (depth (at (parents counted))) 0 (length (parents counted))
-  levels-are = take-at (c .depths2 .last .1 .0) (drop (n counted) zeros) (n counted) (c .depths2 .kept .1 .0 ∙ length-take-le _ zeros (n-bounded counted)) ∙ c .depths2 .ensures
+  levels-are = front (c .climb .last .1 .0) (c .climb .kept .1 .0) ∙ c .climb .ensures .0
 
   levels-front : take (length (parents counted)) levels ≡ values (depth (at (parents counted))) 0 (length (parents counted))
   levels-front = ap (λ (k : ℕ). take k levels) (parents-number counted) ∙ levels-are
 
--- and once the lineages are
-module _ (c : tie.After-lineages2 Inv-loop μ-loop) where
-  abbrev pub deep : tie.After-depths2 Inv-loop μ-loop
-  deep = c .before .before .before .before
-
-  abbrev written : List ℕ
-  written = c .lineages2 .last .1 .0
-
   abbrev array : List ℕ
-  array = written ++ drop (n (counted deep)) zeros
+  array = c .climb .last .1 .1 .0 ++ drop (n counted) zeros
+
+  pub sets-fit : n counted ≤ length array
+  sets-fit = omega (arith, c .climb .kept .1 .1 .0, length-take-le (n counted) zeros (n-bounded counted), length-append (c .climb .last .1 .1 .0) (drop (n counted) zeros))
 
   abbrev pub sets : List ℕ
-  sets = take (n (counted deep)) array
+  sets = take (n counted) array
 
-  whole : length written ≡ n (counted deep)
-  whole = c .lineages2 .kept .1 .0 ∙ length-take-le _ zeros (n-bounded (counted deep))
+  pub sets-number : length sets ≡ n counted
+  sets-number = length-take-le (n counted) array sets-fit
 
-  pub sets-fit : n (counted deep) ≤ length array
-  sets-fit = omega (arith, whole, length-append written (drop (n (counted deep)) zeros))
-
-  front : sets ≡ written
-  front = take-at written (drop (n (counted deep)) zeros) (n (counted deep)) whole
-
-  pub sets-number : length sets ≡ n (counted deep)
-  sets-number = ap length front ∙ whole
-
-  pub sets-are : Lineages (at (parents (counted deep))) sets
+  pub sets-are : Lineages (at (parents counted)) sets
   sets-are =
-      let same : length sets ≡ length (parents (counted deep)) = sets-number ∙ sym (parents-number (counted deep)) in
-      record { tree = rw same (tree (counted deep)); each = front ∙ c .lineages2 .ensures ∙ ap (values (lineage (at (parents (counted deep)))) 0) (sym same) }
+      let same : length sets ≡ length (parents counted) = sets-number ∙ sym (parents-number counted) in
+      record {
+        tree = rw same (tree counted);
+        each = front (c .climb .last .1 .1 .0) (c .climb .kept .1 .1 .0) ∙ c .climb .ensures .1 ∙ ap (values (lineage (at (parents counted))) 0) (sym same);
+      }
 
 -- in a turn: both ends of the flow are clusters
 module _ (c : tie.In-loop Inv-loop μ-loop) where
   abbrev pub was : tie.At-loop Inv-loop μ-loop
   was = c .before
 
-  abbrev pub grown : tie.After-lineages2 Inv-loop μ-loop
-  grown = was .before .before .before
+  abbrev pub climbed : tie.After-climb Inv-loop μ-loop
+  climbed = was .before .before .before .before
 
   abbrev pub first : tie.After-wide2 Inv-loop μ-loop
-  first = counted (deep grown)
+  first = counted climbed
 
   abbrev flow : Flow
   flow = getD (site first .flows) (was .loop .i) noFlow
@@ -167,10 +160,10 @@ module _ (c : tie.After-top Inv-loop μ-loop) where
   turn = c .before .before .before .before .before .before .before
 
   tops : c .top .result ≡ topOf (at (parents (first turn))) (flow turn .source) (flow turn .sink)
-  tops = c .top .ensures _ (sets-are (grown turn))
+  tops = c .top .ensures _ (sets-are (climbed turn))
 
-  pub top-there : (c .top .result < length (parents (first turn))) × (at (levels (deep (grown turn))) (c .top .result) ≤ at (levels (deep (grown turn))) (flow turn .sink))
-  top-there = top-here (parents (first turn)) (levels (deep (grown turn))) (tree (first turn)) (levels-front (deep (grown turn))) (flow turn) _ (ends-here turn .0) (ends-here turn .1) tops
+  pub top-there : (c .top .result < length (parents (first turn))) × (at (levels (climbed turn)) (c .top .result) ≤ at (levels (climbed turn)) (flow turn .sink))
+  top-there = top-here (parents (first turn)) (levels (climbed turn)) (tree (first turn)) (levels-front (climbed turn)) (flow turn) _ (ends-here turn .0) (ends-here turn .1) tops
 
-  pub difference : at (levels (deep (grown turn))) (flow turn .sink) - at (levels (deep (grown turn))) (c .top .result) ≡ descentIn (parents (first turn)) (flow turn)
-  difference = descent-here (parents (first turn)) (levels (deep (grown turn))) (tree (first turn)) (levels-front (deep (grown turn))) (flow turn) _ (ends-here turn .0) (ends-here turn .1) tops
+  pub difference : at (levels (climbed turn)) (flow turn .sink) - at (levels (climbed turn)) (c .top .result) ≡ descentIn (parents (first turn)) (flow turn)
+  difference = descent-here (parents (first turn)) (levels (climbed turn)) (tree (first turn)) (levels-front (climbed turn)) (flow turn) _ (ends-here turn .0) (ends-here turn .1) tops
