@@ -1,4 +1,4 @@
--- The top of two clusters is a cluster, and not deeper than either.
+-- The top of two clusters is a cluster, and not deeper than the second.
 use mathlib.Core.Path.{_≡_}
 use mathlib.Core.Logic.{inl, inr}
 use Prim.Native.Nat.{ℕ, zero, suc, _+_, _≤_, _<_}

@@ -1,6 +1,6 @@
 -- `tree::climb` meets its contract. The invariant: the depths and the lineages of the clusters below `c` stand in their slices. The parent of `c` is one of these. Its depth is at most its
 -- number, so that one more fits a byte, and no number of its lineage is above its own, so that the bit of `c` is added without a carry.
-use mathlib.Core.Path.{_≡_, sym}
+use mathlib.Core.Path.{_≡_}
 use mathlib.Core.List.{List}
 use Prim.Native.Nat.{ℕ, suc, _+_, _-_, _*_, _%_, _^_, _≤_, _<_}
 use native.Mathlib.Omega.{arith}
@@ -86,7 +86,16 @@ slice-write-lineages : tie.Need-slice-write-lineages Inv-loop μ-loop
 slice-write-lineages c = search needs
 
 loop-holds : tie.Need-loop-holds Inv-loop μ-loop
-loop-holds c = (search needs, search needs, search needs, search needs, one-more _ (c .before .args .depths .now) 0 0 (omega arith) (sym (depth-root _)) (λ k h. omega arith), one-more _ (c .before .args .lineages .now) 0 1 (omega arith) (sym (lineage-root _)) (λ k h. omega arith))
+loop-holds c =
+    let args = c .before .args in
+    let parent = at (args .parents .now) in (
+      search needs,
+      search needs,
+      search needs,
+      search needs,
+      one-more _ (args .depths .now) 0 _ (omega arith) (omega (arith, depth-root parent)) (λ k h. omega arith),
+      one-more _ (args .lineages .now) 0 _ (omega arith) (omega (arith, lineage-root parent)) (λ k h. omega arith),
+    )
 
 shared-slice-read-parent : tie.Need-shared-slice-read-parent Inv-loop μ-loop
 shared-slice-read-parent c = search needs
