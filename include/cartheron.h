@@ -29,14 +29,21 @@ extern "C" {
 #define CARTHERON_LONGEST_PLAN 9673
 #define CARTHERON_LONGEST_SITE 11721
 
-/* Why a text was refused (docs/FORMATS.md, "Refusal numbers"). Refusals 1 to 6 name a line of the
- * text, counted from 1; 7 to 9 have line 0. */
+/* Why a text was refused (docs/FORMATS.md, "Refusal numbers"). 7, 8 and 9 have line 0; every other
+ * refusal names a line of the text, counted from 1. Within a line the tests stand in this order; 10 to
+ * 14 name a field, whose place cartheron_place gives. There is no 4. */
 enum cartheron_refusal {
     CARTHERON_NOT_A_LINE = 1,   /* the line has another character than 0-9 and A-F, an odd number of
                                    digits, none or more than 136, or the text ends inside it */
     CARTHERON_WRONG_KIND = 2,   /* another kind of line is due here, or none, or the line is missing */
     CARTHERON_WRONG_LENGTH = 3, /* the record is not as long as its kind */
-    CARTHERON_OUT_OF_RANGE = 4, /* a field is outside its range, or a flow names a cluster that is not there */
+    CARTHERON_BAD_HEADER = 10,  /* the version is not 1, there are no clusters or more than 64, or more
+                                   than 128 flows */
+    CARTHERON_BAD_ORDER = 11,   /* the superframe order is above 14 */
+    CARTHERON_BAD_TAG = 12,     /* the tag length is not 1 to 64, or a tag byte is not 21 to 7E in
+                                   hexadecimal */
+    CARTHERON_NO_CLUSTER = 13,  /* a flow's source or sink is not the number of a cluster */
+    CARTHERON_BAD_TIME = 14,    /* a required period or a deadline is not 1 to 1,000,000,000 symbols */
     CARTHERON_WRONG_PARENT = 5, /* the root's parent is not FF, or another's is not a lower number */
     CARTHERON_TAG_USED = 6,     /* an earlier cluster has the same tag */
     CARTHERON_NO_FIT = 7,       /* the active portions fit no beacon interval that the periods permit */
@@ -57,6 +64,13 @@ uint32_t cartheron_plan(const uint8_t *text, size_t text_len, uint8_t *room, siz
 /* Reads the site and writes its text into the room: the same bytes, if the site is accepted. Returns
  * the length written, or 65,536 x refusal + line. */
 uint32_t cartheron_rewrite(const uint8_t *text, size_t text_len, uint8_t *room, size_t room_len);
+
+/* The place of the field for which a text is refused by 10 to 14: the byte of the record at which the
+ * field begins, counted from 0, so that it stands from character 2 x place of the line on. It is the
+ * first field of that line that is outside its range. CARTHERON_NO_PLACE for every other text, accepted
+ * or refused. The text is read again. */
+#define CARTHERON_NO_PLACE 255
+uint32_t cartheron_place(const uint8_t *text, size_t text_len);
 
 /* Where the part of the text begins that is shown for a line, and how many bytes it has: the line
  * without its LF. For line 0 and for a line that is not there it is the empty part at the text's end. */

@@ -12,6 +12,7 @@ use Rattle.site.specs.declared.Site.{Site}
 use Rattle.site.specs.declared.Verdict.{Verdict}
 use Rattle.site.specs.declared.Verdict.the-variants.{Accepted, Refused}
 use Rattle.records.specs.Check.{checked}
+use Rattle.site.specs.Fields.{noPlace}
 use Rattle.site.specs.Answers.{refuses}
 use Rattle.reader.specs.declared.Reading.{Reading}
 use Rattle.reader.specs.Reading.{accepted, readText}
@@ -27,17 +28,17 @@ use Rattle.plantext.specs.PlanText.{siteOf, planText}
 use Rattle.model.specs.Plans.{Outcome, planned, noFit, noPlacing, plan}
 use Rattle.roundtrip.specs.WriteOfRead.{write-of-read}
 use Rattle.roundtrip.specs.LongestSite.{longest-site}
-use Rattle.commission.specs.Numbers.{numberOf, planNumber, planRoom, rewriteNumber, rewriteRoom}
+use Rattle.commission.specs.Numbers.{numberOf, planNumber, planRoom, rewriteNumber, rewriteRoom, placeNumber}
 
 -- an answer of the writer whose length or line is small
 abbrev pub SmallWriting : Written → Type 0
 SmallWriting (Length n) = n ≤ 11721
-SmallWriting (RefusedWriting number line) = line ≤ 194
+SmallWriting (RefusedWriting number line place) = line ≤ 194
 
 -- an answer of the planner likewise
 abbrev pub SmallPlan : Planned → Type 0
 SmallPlan (Plan n order) = n ≤ 9673
-SmallPlan (RefusedPlan number line) = line ≤ 194
+SmallPlan (RefusedPlan number line place) = line ≤ 194
 
 module _ (s : Site) (checks : checked s ≡ Accepted) (n : ℕ) where
   pub outcome-small : (o : Outcome) → plan (siteOf s) ≡ o → SmallPlan (outcomeAnswer s o n)
@@ -51,19 +52,27 @@ module _ (t : List ℕ) (reading : Reading) (read : reading ≡ readText t) wher
   verdict-is : (v : Verdict) → reading .verdict ≡ v → readText t .verdict ≡ v
   verdict-is v e = ap (λ (r : Reading). r .verdict) (sym read) ∙ e
 
-  module _ (number line : ℕ) (refused : reading .verdict ≡ Refused number line) where
+  module _ (number line place : ℕ) (refused : reading .verdict ≡ Refused number line place) where
     pub refused-line-small : line ≤ 194
-    refused-line-small = subst Small (verdict-is (Refused number line) refused) (text-refusal-small t) .1
+    refused-line-small = subst Small (verdict-is (Refused number line place) refused) (text-refusal-small t) .1
 
-    pub plan-refused : (room : List ℕ) → (numberOf (refuses number line) ≡ planNumber t (length room)) × (room ≡ planRoom t room)
+    pub plan-refused : (room : List ℕ) → (numberOf (refuses number line place) ≡ planNumber t (length room)) × (room ≡ planRoom t room)
     unfolding planNumber planRoom
-    plan-refused room = let v = verdict-is (Refused number line) refused in (rw v, rw v)
+    plan-refused room = let v = verdict-is (Refused number line place) refused in (rw v, rw v)
 
-    pub rewrite-refused : (room : List ℕ) → (numberOf (refuses number line) ≡ rewriteNumber t (length room)) × (room ≡ rewriteRoom t room)
+    pub rewrite-refused : (room : List ℕ) → (numberOf (refuses number line place) ≡ rewriteNumber t (length room)) × (room ≡ rewriteRoom t room)
     unfolding rewriteNumber rewriteRoom
-    rewrite-refused room = let v = verdict-is (Refused number line) refused in (rw v, rw v)
+    rewrite-refused room = let v = verdict-is (Refused number line place) refused in (rw v, rw v)
+
+    pub place-refused : place ≡ placeNumber t
+    unfolding placeNumber
+    place-refused = let v = verdict-is (Refused number line place) refused in rw v
 
   module _ (taken : reading .verdict ≡ Accepted) where
+    pub place-taken : noPlace ≡ placeNumber t
+    unfolding placeNumber
+    place-taken = let v = verdict-is Accepted taken in rw v
+
     abbrev s : Site
     s = reading .site
 

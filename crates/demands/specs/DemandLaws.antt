@@ -14,28 +14,37 @@ use Rattle.hexline.specs.Loops.{decide}
 use Rattle.shown.specs.Shown.{lineStart, lineAt, Shown}
 use Rattle.shown.specs.ShownLaws.{start-fits, line-is-row, line-there, line-missing}
 use Rattle.site.specs.declared.Site.{Site}
+use Rattle.site.specs.declared.Verdict.{Verdict}
 use Rattle.site.specs.declared.Verdict.the-variants.{Accepted, Refused}
 use Rattle.site.specs.Records.{noSite}
 use Rattle.site.specs.Table.{due}
 use Rattle.reader.specs.declared.Reading.{Reading}
-use Rattle.reader.specs.Reading.{refusalAt, entered, accepted, readRows, readText}
+use Rattle.reader.specs.Reading.{verdictAt, entered, accepted, onward, readRows, readText}
+use Rattle.reader.specs.Places.{noRow, text-place-is-first-bad, text-place-only-then}
 use Rattle.roundtrip.specs.AcceptedExactly.{accepted-exactly}
 use Rattle.roundtrip.specs.WriteOfRead.{write-of-read}
-use Rattle.demands.specs.Demands.{Surveyed, noRow, LineShown}
+use Rattle.demands.specs.Demands.{Surveyed, LineShown}
 
 -- ---- the reader
 
--- a verdict of acceptance has the records as they are, and any other all zero
-rows-zero : (rs : List Row) (k : ℕ) (s : Site) (number line : ℕ) → readRows k s rs .verdict ≡ Refused number line → readRows k s rs .site ≡ noSite
-unfolding readRows
-rows-zero [] k s number line e = elim (decide (eqb (due k (s .«cluster_count») (s .«flow_count»)) 0)) [
-  | inl q ↦ absurd (let v : Accepted ≡ Refused number line = rw q at e in let z : _≡_ {A = ℕ} 0 1 = cc in omega arith)
-  | inr q ↦ rw q
-]
-rows-zero (r ∷ rs) k s number line e = elim (decide (eqb (refusalAt k s r) 0)) [
-  | inl q ↦ rw q (rows-zero rs (k + 1) (entered k s (r .chars)) number line (rw q at e))
-  | inr q ↦ rw q
-]
+module _ (number line place : ℕ) where
+  -- after this refusal the records are all zero
+  abbrev ZeroAfter : Reading → Type 0
+  ZeroAfter r = r .verdict ≡ Refused number line place → r .site ≡ noSite
+
+  zero-onward : (v : Verdict) (next : Reading) → ZeroAfter next → ZeroAfter (onward v next)
+  zero-onward Accepted next h e = h e
+  zero-onward (Refused _ _ _) next h e = refl
+
+  rows-zero : (rs : List Row) (k : ℕ) (s : Site) → ZeroAfter (readRows k s rs)
+  unfolding readRows
+  rows-zero [] k s e = elim (decide (eqb (due k (s .«cluster_count») (s .«flow_count»)) 0)) [
+    | inl q ↦ absurd (let v : Accepted ≡ Refused number line place = rw q at e in let z : _≡_ {A = ℕ} 0 1 = cc in omega arith)
+    | inr q ↦ rw q
+  ]
+  rows-zero (r ∷ rs) k s e =
+      let after : Site = entered k s (r .chars) in
+      zero-onward (verdictAt k s r) (readRows (k + 1) after rs) (rows-zero rs (k + 1) after) e
 
 pub surveyed : (text : List ℕ) → Surveyed text (readText text)
 unfolding readText
@@ -46,7 +55,9 @@ surveyed text = record {
     λ w. let read = accepted-exactly text .1 w in ap (λ (r : Reading). r .verdict) (read .1),
   );
   writes-back = λ e. let back = write-of-read text (readText text .site) (whole e) in (back .0, back .1);
-  zero-after-refusal = λ number line e. rows-zero (rows text) 1 noSite number line e;
+  zero-after-refusal = λ number line place e. rows-zero number line place (rows text) 1 noSite e;
+  place-names-field = text-place-is-first-bad text;
+  place-only-then = text-place-only-then text;
 }
   where
     whole : readText text .verdict ≡ Accepted → readText text ≡ accepted (readText text .site)

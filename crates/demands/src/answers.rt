@@ -20,9 +20,12 @@ fn print_line(widths: &[usize], values: &[u64])
     io::write_all(STDOUT_FILENO, &line[..n]);
 }
 
-// Prints a refusal: 8F, its number and its line.
-fn print_refusal(number: u8, line: usize) {
-    print_line(&[1, 1, 2], &[0x8F, number as u64, line as u64]);
+// Prints a refusal: 8F, its number, its line and its place.
+fn print_refusal(number: u8, line: usize, place: u16) {
+    print_line(
+        &[1, 1, 2, 1],
+        &[0x8F, number as u64, line as u64, place as u64],
+    );
 }
 
 // Prints the reader's answer, 80 and the two counts or the refusal, and gives the line of the
@@ -30,8 +33,12 @@ fn print_refusal(number: u8, line: usize) {
 pub fn print_reading(reading: Reading) -> usize {
     let verdict = reading.verdict;
     match verdict {
-        Verdict::Refused { number, line } => {
-            print_refusal(number, line);
+        Verdict::Refused {
+            number,
+            line,
+            place,
+        } => {
+            print_refusal(number, line, place);
             line
         }
         Verdict::Accepted => {
@@ -47,8 +54,12 @@ pub fn print_reading(reading: Reading) -> usize {
 
 // Prints what a line is: 80, or the refusal.
 pub fn print_entry(entry: Entry) {
-    if let Entry::Refused { number, line } = entry {
-        print_refusal(number, line);
+    if let Entry::Refused {
+        number,
+        line,
+        place,
+    } = entry {
+        print_refusal(number, line, place);
     } else {
         print_line(&[1], &[0x80]);
     }
@@ -70,7 +81,11 @@ fn print_first(bytes: &[u8], n: usize) {
 // Prints the writer's answer: 80, the length and the text, which begins the space, or the refusal.
 pub fn print_written(written: Written, space: &[u8; MOST_BYTES]) {
     match written {
-        Written::Refused { number, line } => print_refusal(number, line),
+        Written::Refused {
+            number,
+            line,
+            place,
+        } => print_refusal(number, line, place),
         Written::Length(n) => {
             print_line(&[1, 4], &[0x80, n as u64]);
             print_first(space, n);
@@ -82,7 +97,11 @@ pub fn print_written(written: Written, space: &[u8; MOST_BYTES]) {
 // or the refusal.
 pub fn print_planned(planned: Planned, space: &[u8; MOST_BYTES]) {
     match planned {
-        Planned::Refused { number, line } => print_refusal(number, line),
+        Planned::Refused {
+            number,
+            line,
+            place,
+        } => print_refusal(number, line, place),
         Planned::Plan { length, order } => {
             print_line(&[1, 4, 1], &[0x80, length as u64, order as u64]);
             print_first(space, length);
@@ -106,6 +125,11 @@ fn changed(space: &[u8; MOST_BYTES]) -> u16 {
 // Prints how many bytes of a space of '.' changed.
 pub fn print_changed(space: &[u8; MOST_BYTES]) {
     print_line(&[4], &[changed(space) as u64]);
+}
+
+// Prints the place that a client got.
+pub fn print_place(place: u32) {
+    print_line(&[4], &[place as u64]);
 }
 
 // Prints the number that a client got, and how many bytes of a space of '.' changed.

@@ -17,6 +17,7 @@ ghost use Rattle.roundtrip.specs.WriterExact.{ExactWriting};
 ghost use Rattle.exactness.specs.CallerExact.{ExactNumber};
 ghost use Rattle.exactness.specs.PlannerExact.{ExactAnswer};
 ghost use Rattle.exactness.specs.RewriteExact.{ExactRewrite};
+ghost use Rattle.exactness.specs.PlaceExact.{ExactPlace};
 ghost use Rattle.demands.specs.Demands.{Surveyed, BackAgain, LineShown, LineAnswered};
 
 // The commissioning tool's way: a site's text and a room in, one number out.
@@ -47,7 +48,7 @@ pub fn write_records(site: Site, room: &mut [u8]) -> Written
     writer::write(site, room)
 }
 
-// A refusal as the commissioning tool has it.
+// A refusal as the commissioning tool has it: without its place.
 fn one_number(number: u8, line: usize) -> u32
     requires { ⌜ line ≤ 194 ⌝ }
     ensures { λ r. ⌜ r ≡ 65536 * number + line ⌝ }
@@ -63,12 +64,20 @@ pub fn survey(text: &[u8], room: &mut [u8]) -> u32
     let reading = read_text(text);
     let verdict = reading.verdict;
     match verdict {
-        Verdict::Refused { number, line } => one_number(number, line),
+        Verdict::Refused {
+            number,
+            line,
+            place: _,
+        } => one_number(number, line),
         Verdict::Accepted => {
             let planned = plan_records(reading.site, room);
             match planned {
                 Planned::Plan { length, order: _ } => length as u32,
-                Planned::Refused { number, line } => one_number(number, line),
+                Planned::Refused {
+                    number,
+                    line,
+                    place: _,
+                } => one_number(number, line),
             }
         }
     }
@@ -81,9 +90,16 @@ pub fn rewrite(text: &[u8], room: &mut [u8]) -> u32
     commission::cartheron_rewrite(text, room)
 }
 
+// The place of a text's bad field by the C function.
+pub fn place(text: &[u8]) -> u32
+    ensures { λ r. ⌜ ExactPlace (now (text .entry)) r ⌝ }
+{
+    commission::cartheron_place(text)
+}
+
 // A reading of records that are all zero, with this refusal.
-fn refused(number: u8, line: usize) -> Reading
-    ensures { λ r. ⌜ r ≡ refusedAs number line ⌝ }
+fn refused(number: u8, line: usize, place: u16) -> Reading
+    ensures { λ r. ⌜ r ≡ refusedAs number line place ⌝ }
 {
     let tag = Tag {
         bytes: [0; 64],
@@ -108,7 +124,11 @@ fn refused(number: u8, line: usize) -> Reading
     };
     Reading {
         site,
-        verdict: Verdict::Refused { number, line },
+        verdict: Verdict::Refused {
+            number,
+            line,
+            place,
+        },
     }
 }
 
@@ -120,7 +140,11 @@ pub fn there_and_back(site: Site, room: &mut [u8]) -> Reading
     let written = write_records(site, room);
     match written {
         Written::Length(n) => read_text(&room[..n]),
-        Written::Refused { number, line } => refused(number, line),
+        Written::Refused {
+            number,
+            line,
+            place,
+        } => refused(number, line, place),
     }
 }
 

@@ -7,6 +7,7 @@ mod rooms;
 
 use answers::print_entry;
 use answers::print_part;
+use answers::print_place;
 use answers::print_reading;
 use libc::STDIN_FILENO;
 use patches::read_patches;
@@ -74,6 +75,7 @@ fn run_clients(head: Head, text: &[u8])
     rooms::run_commission(text, head.plan_room);
     rooms::run_survey(text, head.plan_room);
     rooms::run_rewrite(text, head.site_room);
+    print_place(clients::place(text));
     let records = read_patches(reading.site, head.patches);
     rooms::run_plan_records(records, head.plan_room);
     rooms::run_write_records(records, head.site_room);

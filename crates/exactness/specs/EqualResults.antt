@@ -28,8 +28,10 @@ use Rattle.search.specs.Posed.{Posed, Searched}
 use Rattle.sequence.specs.Holding.{inOrder, Sequenced}
 use Rattle.sequence.specs.Running.{sequenced-room}
 use Rattle.site.specs.declared.Entry.{Entry}
+use Rattle.site.specs.declared.Flow.{Flow}
 use Rattle.site.specs.declared.Site.{Site}
 use Rattle.site.specs.declared.Tag.{Tag}
+use Rattle.site.specs.Fields.{headerVerdict, untaggedVerdict, flowVerdict}
 use Rattle.site.specs.Lines.{tagAt}
 use Rattle.site.specs.Records.{sameTag, wrongParent}
 use Rattle.site.specs.Table.{due, entryOf}
@@ -39,7 +41,7 @@ use Rattle.shown.specs.Shown.{lineStart, lineAt, Shown}
 use Rattle.writer.specs.Text.{textOf, written, roomAfter as writtenRoom}
 use Rattle.plantext.specs.PlanText.{siteOf, planHeader, clusterLine}
 use Rattle.planner.specs.Answers.{answer, roomAfter, outcomeAnswer, outcomeRoom}
-use Rattle.commission.specs.Numbers.{planNumber, planRoom, rewriteNumber, rewriteRoom}
+use Rattle.commission.specs.Numbers.{planNumber, planRoom, rewriteNumber, rewriteRoom, placeNumber}
 use Rattle.roundtrip.specs.EqualResults.{equal-results, equal-results-in-room}
 
 -- two results that are d are equal
@@ -86,6 +88,9 @@ pub record EqualResults : Type 0 where
   -- the reader
   pub wide : (x : ℕ) (r₁ r₂ : ℕ) → (r₁ ≡ x) × (r₁ < 256) → (r₂ ≡ x) × (r₂ < 256) → r₁ ≡ r₂
   pub counted : (len : ℕ) → OneResult (min len 64)
+  pub «header_verdict» : (k version clusters flows : ℕ) → OneResult (headerVerdict k version clusters flows)
+  pub «untagged_verdict» : (k order len : ℕ) → OneResult (untaggedVerdict k order len)
+  pub «flow_verdict» : (k clusters : ℕ) (f : Flow) → OneResult (flowVerdict k clusters f)
   pub «bad_parent» : (i parent : ℕ) → OneResult (wrongParent i parent)
   pub «due_at» : (k clusters flows : ℕ) → OneResult (due k clusters flows)
   pub «read_line» : (k clusters flows : ℕ) (r : Row) → OneResult (entryOf k clusters flows r)
@@ -117,6 +122,7 @@ pub record EqualResults : Type 0 where
   -- the C functions
   pub «cartheron_plan» : (text room : List ℕ) → OneResultInRoom (planNumber text (length room)) (planRoom text room)
   pub «cartheron_rewrite» : (text room : List ℕ) → OneResultInRoom (rewriteNumber text (length room)) (rewriteRoom text room)
+  pub «cartheron_place» : (text : List ℕ) → OneResult (placeNumber text)
   pub «cartheron_line_start» : (text : List ℕ) (line : ℕ) → OneResult (lineStart text line)
   pub «cartheron_line_length» : (text : List ℕ) (line : ℕ) → OneResult (length (lineAt text line))
 
@@ -142,6 +148,9 @@ results-are-equal = record {
   order-permitted = λ number periods. equal-results (permitted number periods);
   wide = λ x r₁ r₂ p q. equal-results x r₁ r₂ (p .0) (q .0);
   counted = λ len. equal-results (min len 64);
+  «header_verdict» = λ k version clusters flows. equal-results (headerVerdict k version clusters flows);
+  «untagged_verdict» = λ k order len. equal-results (untaggedVerdict k order len);
+  «flow_verdict» = λ k clusters f. equal-results (flowVerdict k clusters f);
   «bad_parent» = λ i parent. equal-results (wrongParent i parent);
   «due_at» = λ k clusters flows. equal-results (due k clusters flows);
   «read_line» = λ k clusters flows r. equal-results (entryOf k clusters flows r);
@@ -182,6 +191,7 @@ results-are-equal = record {
   plan = λ s room. equal-results-in-room (answer s (length room)) (roomAfter s room);
   «cartheron_plan» = λ text room. equal-results-in-room (planNumber text (length room)) (planRoom text room);
   «cartheron_rewrite» = λ text room. equal-results-in-room (rewriteNumber text (length room)) (rewriteRoom text room);
+  «cartheron_place» = λ text. equal-results (placeNumber text);
   «cartheron_line_start» = λ text line. equal-results (lineStart text line);
   «cartheron_line_length» = λ text line. equal-results (length (lineAt text line));
 }

@@ -1,5 +1,5 @@
 -- The impostors (docs/PROMISES.md, "Impostors"), each as a way to behave and a proof that no function that behaves so meets the planner's contract.
--- Each proof computes the contract at records of a case of docs/FORMATS.md, "Worked sites", in a room of so many bytes.
+-- Each proof computes the contract at records, most of them those of a case of docs/FORMATS.md, "Worked sites", in a room of so many bytes.
 use mathlib.Core.Path.{_≡_, refl, sym, ap, _∙_}
 use mathlib.Core.List.{List, [], _∷_, _++_, map}
 use Prim.Native.Nat.{ℕ, _-_, _≤_, _<_, min}
@@ -24,8 +24,9 @@ use Rattle.site.specs.declared.Flow.{Flow}
 use Rattle.site.specs.declared.Site.{Site}
 use Rattle.site.specs.declared.Tag.{Tag}
 use Rattle.site.specs.declared.Verdict.the-variants.{Accepted}
-use Rattle.site.specs.Records.{noCluster, noFlow, noSite, absent, sameTag, printableTag, headerOutside, clusterOutside, flowOutside, wrongParent, tagTaken}
-use Rattle.records.specs.Check.{clusterRefusal, flowRefusal, firstBad, clustersVerdict, flowsVerdict, checked}
+use Rattle.site.specs.Records.{noCluster, noFlow, noSite, absent, sameTag, wrongParent, tagTaken}
+use Rattle.site.specs.Fields.{firstBad, headerVerdict, clusterVerdict, flowVerdict}
+use Rattle.records.specs.Check.{clusterChecked, eachOf, clustersVerdict, flowsVerdict, checked}
 use Rattle.plantext.specs.PlanText.{siteOf, planHeader, clusterLine, planLine, planLines, planText}
 use Rattle.figures.specs.SiteLaws.{describes-sound}
 use Rattle.planner.specs.declared.Planned.{Planned}
@@ -47,9 +48,12 @@ Contract f = (s : Site) (room : List ℕ) → f s room ≡ (answer s (length roo
 abbrev tagged : List ℕ → Tag
 tagged bytes = record { bytes = bytes ++ replicate (64 - length bytes) 0; len = length bytes }
 
+abbrev ordered : ℕ → ℕ → List ℕ → Cluster
+ordered order parent tag = record { parent = parent; order = order; tag = tagged tag }
+
 -- a cluster of order 0
 abbrev cluster : ℕ → List ℕ → Cluster
-cluster parent tag = record { parent = parent; order = 0; tag = tagged tag }
+cluster parent tag = ordered 0 parent tag
 
 abbrev flow : ℕ → ℕ → ℕ → ℕ → Flow
 flow source sink period deadline = record { source = source; sink = sink; period = period; deadline = deadline }
@@ -96,9 +100,16 @@ P8 = records pair (flow 0 1 1919 1920 ∷ [])
 twins : Site
 twins = records (cluster 255 (replicate 16 65 ++ (65 ∷ [])) ∷ cluster 0 (replicate 16 65 ++ (66 ∷ [])) ∷ []) []
 
--- a cluster of order 15
+-- a superframe order of 15 in line 2, and in line 3
 tall : Site
-tall = records (record { parent = 255; order = 15; tag = tagged (65 ∷ []) } ∷ []) []
+tall = records (ordered 15 255 (65 ∷ []) ∷ []) []
+
+tallChild : Site
+tallChild = records (cluster 255 (65 ∷ []) ∷ ordered 15 0 (66 ∷ []) ∷ []) []
+
+-- the records of P1 with 129 for the number of flows
+crowded : Site
+crowded = record { clusters = P1 .clusters; flows = P1 .flows; «cluster_count» = 1; «flow_count» = 129 }
 
 -- the first flow alone
 unfoldable pub firstFlow : Site → Site
@@ -121,7 +132,7 @@ record Worked : Type 0 where
   P3-begins : getD (roomAfter P3 (replicate 84 0)) 12 0 ≡ 50
   P5-planned : answer P5 84 ≡ Plan 84 2
   P5-begins : getD (roomAfter P5 (replicate 84 0)) 12 0 ≡ 48
-  P4-late : answer P4 84 ≡ Refused 8 0
+  P4-late : answer P4 84 ≡ Refused 8 0 255
   P4-first-flow : answer (firstFlow P4) 84 ≡ Plan 84 2
   P6-accepted : checked P6 ≡ Accepted
   P6-plan : plan (siteOf P6) ≡ planned 2 (0 ∷ 2 ∷ 1 ∷ [])
@@ -130,14 +141,16 @@ record Worked : Type 0 where
   P6-fits : Fits (siteOf P6) 10
   P7-planned : answer P7 59 ≡ Plan 59 1
   P7-starts : let text : List ℕ = take 59 (roomAfter P7 (replicate 59 1)) in (startsIn text 0 ≡ 0) × (startsIn text 1 ≡ 960)
-  P8-misfit : answer P8 59 ≡ Refused 7 0
-  none-refused : answer noSite 0 ≡ Refused 4 1
-  tall-refused : answer tall 0 ≡ Refused 4 2
+  P8-misfit : answer P8 59 ≡ Refused 7 0 255
+  none-refused : answer noSite 0 ≡ Refused 10 1 2
+  crowded-refused : answer crowded 0 ≡ Refused 10 1 3
+  tall-refused : answer tall 0 ≡ Refused 11 2 2
+  tall-child-refused : answer tallChild 0 ≡ Refused 11 3 2
   twins-planned : answer twins 123 ≡ Plan 123 14
-  twins-cut : answer (cutTags twins) 123 ≡ Refused 6 3
+  twins-cut : answer (cutTags twins) 123 ≡ Refused 6 3 255
 
 worked : Worked
-unfolding P1 P3 P4 P5 P6 P7 P8 lone pair chain twins tall noSite firstFlow cutTags answer roomAfter checked headerOutside clustersVerdict flowsVerdict firstBad clusterRefusal flowRefusal clusterOutside printableTag flowOutside wrongParent tagTaken sameTag every siteOf plan search candidate fits permitted isOrder withinAll symbols starts startIn sequence nextOnes next ready before solve depths settledWithin round relax allOkay okay constraints descent treeConstraints allowed top topWithin depth total totalWithin values leastWhere allBelow sumBelow planText planHeader planLines planLine clusterLine linesOf fieldBytes numberBytes lineOf hexes hexOf handed startsIn rows digit byteAt numberAt
+unfolding P1 P3 P4 P5 P6 P7 P8 lone pair chain twins tall tallChild crowded noSite firstFlow cutTags answer roomAfter checked clustersVerdict flowsVerdict eachOf clusterChecked headerVerdict clusterVerdict flowVerdict firstBad wrongParent tagTaken sameTag every siteOf plan search candidate fits permitted isOrder withinAll symbols starts startIn sequence nextOnes next ready before solve depths settledWithin round relax allOkay okay constraints descent treeConstraints allowed top topWithin depth total totalWithin values leastWhere allBelow sumBelow planText planHeader planLines planLine clusterLine linesOf fieldBytes numberBytes lineOf hexes hexOf handed startsIn rows digit byteAt numberAt
 worked = record {
   P1-planned = refl;
   P1-begins = refl;
@@ -158,7 +171,9 @@ worked = record {
   P7-starts = (refl, refl);
   P8-misfit = refl;
   none-refused = refl;
+  crowded-refused = refl;
   tall-refused = refl;
+  tall-child-refused = refl;
   twins-planned = refl;
   twins-cut = refl;
 }
@@ -173,9 +188,9 @@ module _ (f : Planner) (meets : Contract f) where
   leaves s room = ap (λ r. r .1) (meets s room)
 
   -- one that refuses all sites: P1 is planned
-  pub not-all-refused : ((s : Site) (room : List ℕ) → (number line : ℕ) × (f s room .0 ≡ Refused number line)) → ⊥
+  pub not-all-refused : ((s : Site) (room : List ℕ) → (number line place : ℕ) × (f s room .0 ≡ Refused number line place)) → ⊥
   not-all-refused impostor =
-      let e = impostor P1 (replicate 59 1) .2 in
+      let e = impostor P1 (replicate 59 1) .3 in
       let h = answers P1 (replicate 59 1) (Plan 34 14) (worked .P1-planned) in
       let z : _≡_ {A = ℕ} 0 1 = cc in omega arith
 
@@ -208,7 +223,7 @@ module _ (f : Planner) (meets : Contract f) where
   every-flow-counts impostor =
       let room : List ℕ = replicate 84 0 in
       let e = impostor P4 room ∙ worked .P4-first-flow in
-      let h = answers P4 room (Refused 8 0) (worked .P4-late) in
+      let h = answers P4 room (Refused 8 0 255) (worked .P4-late) in
       let z : _≡_ {A = ℕ} 0 1 = cc in omega arith
 
   -- one that makes the length up: P1 and P7 have texts of 34 and 59 bytes in rooms of one length
@@ -219,12 +234,23 @@ module _ (f : Planner) (meets : Contract f) where
       let h = impostor P7 room 59 1 (answers P7 room (Plan 59 1) (worked .P7-planned)) in
       omega arith
 
-  -- one that makes the line up: no cluster is refused by 4 at line 1, and an order of 15 by 4 at line 2
-  pub line-not-invented : (invented : ℕ → ℕ) → ((s : Site) (room : List ℕ) (number line : ℕ) → f s room .0 ≡ Refused number line → line ≡ invented number) → ⊥
+  -- one that makes the line up: an order of 15 is refused by 11 at place 2, of the root at line 2 and of its child at line 3
+  pub line-not-invented : (invented : ℕ → ℕ → ℕ) → ((s : Site) (room : List ℕ) (number line place : ℕ) → f s room .0 ≡ Refused number line place → line ≡ invented number place) → ⊥
   line-not-invented invented impostor =
-      let e = impostor noSite [] 4 1 (answers noSite [] (Refused 4 1) (worked .none-refused)) in
-      let h = impostor tall [] 4 2 (answers tall [] (Refused 4 2) (worked .tall-refused)) in
+      let e = impostor tall [] 11 2 2 (answers tall [] (Refused 11 2 2) (worked .tall-refused)) in
+      let h = impostor tallChild [] 11 3 2 (answers tallChild [] (Refused 11 3 2) (worked .tall-child-refused)) in
       omega arith
+
+  -- one that makes the place up: no cluster and too many flows are both refused by 10 at line 1, at places 2 and 3
+  pub place-not-invented : (invented : ℕ → ℕ → ℕ) → ((s : Site) (room : List ℕ) (number line place : ℕ) → f s room .0 ≡ Refused number line place → place ≡ invented number line) → ⊥
+  place-not-invented invented impostor =
+      let e = impostor noSite [] 10 1 2 (answers noSite [] (Refused 10 1 2) (worked .none-refused)) in
+      let h = impostor crowded [] 10 1 3 (answers crowded [] (Refused 10 1 3) (worked .crowded-refused)) in
+      omega arith
+
+  -- one that never tells a place: no cluster is refused at place 2
+  pub place-is-told : ((s : Site) (room : List ℕ) (number line place : ℕ) → f s room .0 ≡ Refused number line place → place ≡ 255) → ⊥
+  place-is-told impostor = let e = impostor noSite [] 10 1 2 (answers noSite [] (Refused 10 1 2) (worked .none-refused)) in omega arith
 
   -- one that takes the smallest order that fits: P1 fits order 0, and is planned at 14
   pub order-not-smallest : ((s : Site) (room : List ℕ) (len order : ℕ) → f s room .0 ≡ Plan len order → (smaller : ℕ) → smaller < order → Fits (siteOf s) smaller → ⊥) → ⊥
@@ -233,7 +259,7 @@ module _ (f : Planner) (meets : Contract f) where
       impostor P1 room 34 14 (answers P1 room (Plan 34 14) (worked .P1-planned)) 0 (omega arith) (worked .P1-fits)
 
   -- one that gives 8 where some permitted order that fits has no placing: P6 has none at order 10, and is planned at 2
-  pub smaller-orders-tried : ((s : Site) (room : List ℕ) (order : ℕ) → Permitted (siteOf s) order → Fits (siteOf s) order → Placeless (siteOf s) order → f s room .0 ≡ Refused 8 0) → ⊥
+  pub smaller-orders-tried : ((s : Site) (room : List ℕ) (order : ℕ) → Permitted (siteOf s) order → Fits (siteOf s) order → Placeless (siteOf s) order → f s room .0 ≡ Refused 8 0 255) → ⊥
   smaller-orders-tried impostor =
       let room : List ℕ = replicate 84 0 in
       let largest = plan-is-exact (siteOf P6) (describes-sound P6 (worked .P6-accepted)) .planned-is 2 (0 ∷ 2 ∷ 1 ∷ []) (worked .P6-plan) .largest-order in
@@ -249,8 +275,8 @@ module _ (f : Planner) (meets : Contract f) where
       omega (arith, rw leaves at cleared, worked .P1-behind)
 
   -- one that gives 8 for 7: P8 fits no permitted order
-  pub seven-is-given : ((s : Site) (room : List ℕ) → f s room .0 ≡ Refused 7 0 → ⊥) → ⊥
-  seven-is-given impostor = impostor P8 (replicate 59 1) (answers P8 (replicate 59 1) (Refused 7 0) (worked .P8-misfit))
+  pub seven-is-given : ((s : Site) (room : List ℕ) → f s room .0 ≡ Refused 7 0 255 → ⊥) → ⊥
+  seven-is-given impostor = impostor P8 (replicate 59 1) (answers P8 (replicate 59 1) (Refused 7 0 255) (worked .P8-misfit))
 
   -- one that cuts tags at sixteen bytes: the twins are two clusters
   pub tags-kept-whole : ((s : Site) (room : List ℕ) → f s room .0 ≡ answer (cutTags s) (length room)) → ⊥

@@ -4,9 +4,10 @@ pub mod PlanRead
 pub mod SameStarts
 pub mod EachOnce
 pub mod PlanReadLaws
--- the theorems: the planner and the C caller's number are exact, no impostor meets the contract, and a contract allows one result
+-- the theorems: the planner and the numbers of the C functions are exact, no impostor meets the contract, and a contract allows one result
 pub mod PlannerExact
 pub mod CallerExact
 pub mod RewriteExact
+pub mod PlaceExact
 pub mod Impostors
 pub mod EqualResults

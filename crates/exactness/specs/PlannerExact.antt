@@ -1,8 +1,9 @@
--- The planner is exact (docs/FORMATS.md, "Refusal numbers" and "The plan that is returned"), said of its own answer to any records and any room: 4, 5 and 6 come
--- exactly as the check gives them. For records that it accepts a plan comes back exactly if some permitted order has a placing and the room is as long as the plan text,
+-- The planner is exact (docs/FORMATS.md, "Refusal numbers" and "The plan that is returned"), said of its own answer to any records and any room: the numbers of
+-- records come exactly as the check gives them, with line and place. For records that it accepts a plan comes back exactly if some permitted order has a placing and the room is as long as the plan text,
 -- 9 exactly if some has and the room is shorter, 8 exactly if the portions fit a permitted order and no permitted order has a placing, and 7 exactly if they fit none.
 -- A plan is the published one, its starts are a placing at its order, and no larger permitted order has any. A refusal leaves the room as it was.
 use mathlib.Core.Path.{_≡_, refl, sym, ap, _∙_, subst}
+use mathlib.Core.Bool.{Bool, true, false, true≢false}
 use mathlib.Core.List.{List, _++_}
 use mathlib.Core.Logic.{_↔_, _⊎_, inl, inr}
 use Prim.Native.Nat.{ℕ, suc, _≤_, _<_}
@@ -23,6 +24,7 @@ use Rattle.model.specs.Sites as model
 use Rattle.site.specs.declared.Site.{Site}
 use Rattle.site.specs.declared.Verdict.{Verdict}
 use Rattle.site.specs.declared.Verdict.the-variants.{Accepted, Refused}
+use Rattle.site.specs.Table.{recordNumber}
 use Rattle.records.specs.Check.{checked}
 use Rattle.records.specs.CheckNumbers.{ByRecords, check-by-records}
 use Rattle.plantext.specs.PlanText.{siteOf, planText}
@@ -61,24 +63,24 @@ Taken s = checked s ≡ Accepted
 
 -- the answer r to the records s, and the room before and after it
 pub record ExactAnswer (s : Site) (before : List ℕ) (r : Planned) (after : List ℕ) : Type 0 where
-  pub refused-exactly : (number line : ℕ) → 4 ≤ number → number ≤ 6 → (r ≡ RefusedPlan number line) ↔ (checked s ≡ Refused number line)
+  pub refused-exactly : (number line place : ℕ) → recordNumber number ≡ true → (r ≡ RefusedPlan number line place) ↔ (checked s ≡ Refused number line place)
   pub planned-exactly : ((len order : ℕ) × (r ≡ Plan len order)) ↔ (Taken s × Placeable (siteOf s) × (planSize s ≤ length before))
   pub plan-is-placing : (len order : ℕ) → r ≡ Plan len order → PlanIn s before len order after
-  pub short-exactly : (r ≡ RefusedPlan 9 0) ↔ (Taken s × Placeable (siteOf s) × (length before < planSize s))
-  pub late-exactly : (r ≡ RefusedPlan 8 0) ↔ (Taken s × Late (siteOf s))
-  pub misfit-exactly : (r ≡ RefusedPlan 7 0) ↔ (Taken s × Misfit (siteOf s))
+  pub short-exactly : (r ≡ RefusedPlan 9 0 255) ↔ (Taken s × Placeable (siteOf s) × (length before < planSize s))
+  pub late-exactly : (r ≡ RefusedPlan 8 0 255) ↔ (Taken s × Late (siteOf s))
+  pub misfit-exactly : (r ≡ RefusedPlan 7 0 255) ↔ (Taken s × Misfit (siteOf s))
   -- no other refusal is given
-  pub refusal-known : (number line : ℕ) → r ≡ RefusedPlan number line → ((4 ≤ number) × (number ≤ 6)) ⊎ ((7 ≤ number) × (number ≤ 9) × (line ≡ 0))
-  pub refusal-writes-nothing : (number line : ℕ) → r ≡ RefusedPlan number line → after ≡ before
+  pub refusal-known : (number line place : ℕ) → r ≡ RefusedPlan number line place → (recordNumber number ≡ true) ⊎ ((7 ≤ number) × (number ≤ 9) × (line ≡ 0) × (place ≡ 255))
+  pub refusal-writes-nothing : (number line place : ℕ) → r ≡ RefusedPlan number line place → after ≡ before
 
 -- ---- one of five comes back
 
 pub data Answered (s : Site) (before : List ℕ) (r : Planned) (after : List ℕ) : Type 0 where
-  refuses : (number line : ℕ) → checked s ≡ Refused number line → (4 ≤ number) × (number ≤ 6) → r ≡ RefusedPlan number line → after ≡ before → Answered s before r after
+  refuses : (number line place : ℕ) → checked s ≡ Refused number line place → recordNumber number ≡ true → r ≡ RefusedPlan number line place → after ≡ before → Answered s before r after
   plans : (len order : ℕ) → Taken s → Placeable (siteOf s) → planSize s ≤ length before → PlanIn s before len order after → r ≡ Plan len order → Answered s before r after
-  short : Taken s → Placeable (siteOf s) → length before < planSize s → r ≡ RefusedPlan 9 0 → after ≡ before → Answered s before r after
-  late : Taken s → Late (siteOf s) → r ≡ RefusedPlan 8 0 → after ≡ before → Answered s before r after
-  misfit : Taken s → Misfit (siteOf s) → r ≡ RefusedPlan 7 0 → after ≡ before → Answered s before r after
+  short : Taken s → Placeable (siteOf s) → length before < planSize s → r ≡ RefusedPlan 9 0 255 → after ≡ before → Answered s before r after
+  late : Taken s → Late (siteOf s) → r ≡ RefusedPlan 8 0 255 → after ≡ before → Answered s before r after
+  misfit : Taken s → Misfit (siteOf s) → r ≡ RefusedPlan 7 0 255 → after ≡ before → Answered s before r after
 
 module _ (s : Site) (accepted : Taken s) where
   exact : Exact (siteOf s)
@@ -132,13 +134,17 @@ planner-answered s room = by-verdict (checked s) refl
   where
     by-verdict : (v : Verdict) → checked s ≡ v → Answered s room (answer s (length room)) (roomAfter s room)
     by-verdict Accepted e = answered-by-outcome s e room (plan (siteOf s)) refl
-    by-verdict (Refused number line) e = refuses number line e (subst ByRecords e (check-by-records s)) (rw e) (rw e)
+    by-verdict (Refused number line place) e = refuses number line place e (subst ByRecords e (check-by-records s)) (rw e) (rw e)
 
 -- ---- and each exactly where it should
 
+-- a number that is in a set is none that is not
+pub not-in : (set : ℕ → Bool) (m x : ℕ) → set m ≡ true → set x ≡ false → m ≡ x → ⊥
+not-in set m x known none q = true≢false (sym known ∙ ap set q ∙ none)
+
 module _ (s : Site) where
-  pub accepted-or-refused : {A : Type 0} (number line : ℕ) → Taken s → checked s ≡ Refused number line → A
-  accepted-or-refused number line a e = absurd (let z : _≡_ {A = ℕ} 0 1 = cc in omega arith)
+  pub accepted-or-refused : {A : Type 0} (number line place : ℕ) → Taken s → checked s ≡ Refused number line place → A
+  accepted-or-refused number line place a e = absurd (let z : _≡_ {A = ℕ} 0 1 = cc in omega arith)
 
   pub placeable-not-late : {A : Type 0} → Placeable (siteOf s) → Late (siteOf s) → A
   placeable-not-late p l = absurd (l .1 (p .0) (p .2) (p .1) (p .3))
@@ -155,32 +161,32 @@ module _ (s : Site) where
 module _ (s : Site) (before : List ℕ) (r : Planned) (after : List ℕ) (answered : Answered s before r after) where
   pub answer-exact : ExactAnswer s before r after
   answer-exact = record {
-    refused-exactly = λ number line low high. (
+    refused-exactly = λ number line place known. (
       λ e. elim answered [
-        | refuses m k c h is same ↦ cc
+        | refuses m k p c h is same ↦ cc
         | plans len order a p fits text is ↦ absurd (let z : _≡_ {A = ℕ} 0 1 = cc in omega arith)
-        | short a p less is same ↦ absurd (let q : number ≡ 9 = cc in omega arith)
-        | late a l is same ↦ absurd (let q : number ≡ 8 = cc in omega arith)
-        | misfit a m is same ↦ absurd (let q : number ≡ 7 = cc in omega arith)
+        | short a p less is same ↦ absurd (not-in recordNumber number 9 known refl (cc))
+        | late a l is same ↦ absurd (not-in recordNumber number 8 known refl (cc))
+        | misfit a m is same ↦ absurd (not-in recordNumber number 7 known refl (cc))
       ],
       λ e. elim answered [
-        | refuses m k c h is same ↦ cc
-        | plans len order a p fits text is ↦ accepted-or-refused s number line a e
-        | short a p less is same ↦ accepted-or-refused s number line a e
-        | late a l is same ↦ accepted-or-refused s number line a e
-        | misfit a m is same ↦ accepted-or-refused s number line a e
+        | refuses m k p c h is same ↦ cc
+        | plans len order a p fits text is ↦ accepted-or-refused s number line place a e
+        | short a p less is same ↦ accepted-or-refused s number line place a e
+        | late a l is same ↦ accepted-or-refused s number line place a e
+        | misfit a m is same ↦ accepted-or-refused s number line place a e
       ],
     );
     planned-exactly = (
       λ e. let is = e .2 in elim answered [
-        | refuses m k c h q same ↦ absurd (let z : _≡_ {A = ℕ} 0 1 = cc in omega arith)
+        | refuses m k p c h q same ↦ absurd (let z : _≡_ {A = ℕ} 0 1 = cc in omega arith)
         | plans len order a p fits text q ↦ (a, p, fits)
         | short a p less q same ↦ absurd (let z : _≡_ {A = ℕ} 0 1 = cc in omega arith)
         | late a l q same ↦ absurd (let z : _≡_ {A = ℕ} 0 1 = cc in omega arith)
         | misfit a m q same ↦ absurd (let z : _≡_ {A = ℕ} 0 1 = cc in omega arith)
       ],
       λ w. elim answered [
-        | refuses m k c h is same ↦ accepted-or-refused s m k (w .0) c
+        | refuses m k p c h is same ↦ accepted-or-refused s m k p (w .0) c
         | plans len order a p fits text is ↦ (len, order, is)
         | short a p less is same ↦ absurd (omega arith)
         | late a l is same ↦ placeable-not-late s (w .1) l
@@ -188,7 +194,7 @@ module _ (s : Site) (before : List ℕ) (r : Planned) (after : List ℕ) (answer
       ],
     );
     plan-is-placing = λ len order e. elim answered [
-      | refuses m k c h is same ↦ absurd (let z : _≡_ {A = ℕ} 0 1 = cc in omega arith)
+      | refuses m k p c h is same ↦ absurd (let z : _≡_ {A = ℕ} 0 1 = cc in omega arith)
       | plans n o a p fits text is ↦ let q : n ≡ len = cc in let t : o ≡ order = cc in rw (q, t) at text
       | short a p less is same ↦ absurd (let z : _≡_ {A = ℕ} 0 1 = cc in omega arith)
       | late a l is same ↦ absurd (let z : _≡_ {A = ℕ} 0 1 = cc in omega arith)
@@ -196,14 +202,14 @@ module _ (s : Site) (before : List ℕ) (r : Planned) (after : List ℕ) (answer
     ];
     short-exactly = (
       λ e. elim answered [
-        | refuses m k c h is same ↦ absurd (let q : m ≡ 9 = cc in omega arith)
+        | refuses m k p c h is same ↦ absurd (not-in recordNumber m 9 h refl (cc))
         | plans len order a p fits text is ↦ absurd (let z : _≡_ {A = ℕ} 0 1 = cc in omega arith)
         | short a p less is same ↦ (a, p, less)
         | late a l is same ↦ absurd (let q : _≡_ {A = ℕ} 8 9 = cc in omega arith)
         | misfit a m is same ↦ absurd (let q : _≡_ {A = ℕ} 7 9 = cc in omega arith)
       ],
       λ w. elim answered [
-        | refuses m k c h is same ↦ accepted-or-refused s m k (w .0) c
+        | refuses m k p c h is same ↦ accepted-or-refused s m k p (w .0) c
         | plans len order a p fits text is ↦ absurd (omega arith)
         | short a p less is same ↦ is
         | late a l is same ↦ placeable-not-late s (w .1) l
@@ -212,14 +218,14 @@ module _ (s : Site) (before : List ℕ) (r : Planned) (after : List ℕ) (answer
     );
     late-exactly = (
       λ e. elim answered [
-        | refuses m k c h is same ↦ absurd (let q : m ≡ 8 = cc in omega arith)
+        | refuses m k p c h is same ↦ absurd (not-in recordNumber m 8 h refl (cc))
         | plans len order a p fits text is ↦ absurd (let z : _≡_ {A = ℕ} 0 1 = cc in omega arith)
         | short a p less is same ↦ absurd (let q : _≡_ {A = ℕ} 9 8 = cc in omega arith)
         | late a l is same ↦ (a, l)
         | misfit a m is same ↦ absurd (let q : _≡_ {A = ℕ} 7 8 = cc in omega arith)
       ],
       λ w. elim answered [
-        | refuses m k c h is same ↦ accepted-or-refused s m k (w .0) c
+        | refuses m k p c h is same ↦ accepted-or-refused s m k p (w .0) c
         | plans len order a p fits text is ↦ placeable-not-late s p (w .1)
         | short a p less is same ↦ placeable-not-late s p (w .1)
         | late a l is same ↦ is
@@ -228,29 +234,29 @@ module _ (s : Site) (before : List ℕ) (r : Planned) (after : List ℕ) (answer
     );
     misfit-exactly = (
       λ e. elim answered [
-        | refuses m k c h is same ↦ absurd (let q : m ≡ 7 = cc in omega arith)
+        | refuses m k p c h is same ↦ absurd (not-in recordNumber m 7 h refl (cc))
         | plans len order a p fits text is ↦ absurd (let z : _≡_ {A = ℕ} 0 1 = cc in omega arith)
         | short a p less is same ↦ absurd (let q : _≡_ {A = ℕ} 9 7 = cc in omega arith)
         | late a l is same ↦ absurd (let q : _≡_ {A = ℕ} 8 7 = cc in omega arith)
         | misfit a m is same ↦ (a, m)
       ],
       λ w. elim answered [
-        | refuses m k c h is same ↦ accepted-or-refused s m k (w .0) c
+        | refuses m k p c h is same ↦ accepted-or-refused s m k p (w .0) c
         | plans len order a p fits text is ↦ placeable-not-misfit s a p (w .1)
         | short a p less is same ↦ placeable-not-misfit s a p (w .1)
         | late a l is same ↦ late-not-misfit s l (w .1)
         | misfit a m is same ↦ is
       ],
     );
-    refusal-known = λ number line e. elim answered [
-      | refuses m k c h is same ↦ let q : m ≡ number = cc in inl (omega arith)
+    refusal-known = λ number line place e. elim answered [
+      | refuses m k p c h is same ↦ let q : m ≡ number = cc in inl (rw q at h)
       | plans len order a p fits text is ↦ absurd (let z : _≡_ {A = ℕ} 0 1 = cc in omega arith)
-      | short a p less is same ↦ let q : number ≡ 9 = cc in let l : line ≡ 0 = cc in inr (omega arith, omega arith, l)
-      | late a l is same ↦ let q : number ≡ 8 = cc in let z : line ≡ 0 = cc in inr (omega arith, omega arith, z)
-      | misfit a m is same ↦ let q : number ≡ 7 = cc in let z : line ≡ 0 = cc in inr (omega arith, omega arith, z)
+      | short a p less is same ↦ let q : number ≡ 9 = cc in inr (omega arith, omega arith, (cc), (cc))
+      | late a l is same ↦ let q : number ≡ 8 = cc in inr (omega arith, omega arith, (cc), (cc))
+      | misfit a m is same ↦ let q : number ≡ 7 = cc in inr (omega arith, omega arith, (cc), (cc))
     ];
-    refusal-writes-nothing = λ number line e. elim answered [
-      | refuses m k c h is same ↦ same
+    refusal-writes-nothing = λ number line place e. elim answered [
+      | refuses m k p c h is same ↦ same
       | plans len order a p fits text is ↦ absurd (let z : _≡_ {A = ℕ} 0 1 = cc in omega arith)
       | short a p less is same ↦ same
       | late a l is same ↦ same

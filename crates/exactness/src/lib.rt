@@ -1,1 +1,2 @@
-// Theorems alone, in specs/: PlannerExact, CallerExact, LongestPlan, Impostors and EqualResults.
+// Theorems alone, in specs/: PlannerExact, CallerExact, RewriteExact, PlaceExact, Impostors and
+// EqualResults.

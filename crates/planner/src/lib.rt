@@ -3,6 +3,7 @@ use model::Order;
 use model::wide;
 use search::Figures;
 use search::Found;
+use site::NO_PLACE;
 use site::Site;
 use site::Verdict;
 ghost use mathlib.Core.Path.{_≡_};
@@ -20,7 +21,7 @@ ghost use Rattle.planner.specs.Schedules.{Scheduled};
 // the refusal.
 pub enum Planned {
     Plan { length: usize, order: u8 },
-    Refused { number: u8, line: usize },
+    Refused { number: u8, line: usize, place: u16 },
 }
 
 // The order and how many clusters are placed, or that the portions fit no permitted order, or that
@@ -51,6 +52,16 @@ fn place_clusters(figures: Figures, placed: &mut [u8]) -> Schedule
     }
 }
 
+fn refused(number: u8, line: usize, place: u16) -> Planned
+    ensures { λ r. ⌜ r ≡ Planned.Refused number line place ⌝ }
+{
+    Planned::Refused {
+        number,
+        line,
+        place,
+    }
+}
+
 // Plans accepted records: 7 or 8 where there is no plan, 9 where the room is shorter than its text.
 // The clusters are walked twice: for their parents, the sum of their portions and the length of the
 // text, which no order of start changes; and in order of start for the lines, each cluster starting
@@ -75,11 +86,11 @@ pub fn plan_accepted(site: Site, room: &mut [u8]) -> Planned
     }
     let schedule = place_clusters(figures::figures_of(site, parents, total), &mut placed[..n]);
     match schedule {
-        Schedule::NoFit => Planned::Refused { number: 7, line: 0 },
-        Schedule::NoPlacing => Planned::Refused { number: 8, line: 0 },
+        Schedule::NoFit => refused(7, 0, NO_PLACE),
+        Schedule::NoPlacing => refused(8, 0, NO_PLACE),
         Schedule::Made { order, count } => {
             if room.len() < size {
-                return Planned::Refused { number: 9, line: 0 };
+                return refused(9, 0, NO_PLACE);
             }
             let mut length = plantext::put_header(room, order, site.cluster_count);
             let mut start: u32 = 0;
@@ -99,7 +110,7 @@ pub fn plan_accepted(site: Site, room: &mut [u8]) -> Planned
 }
 
 // Plans a site and writes the plan text into the room. Records that `check` refuses are refused
-// alike by 4, 5 or 6; then come 7 and 8 where there is no plan and 9 for a room shorter than the
+// alike; then come 7 and 8 where there is no plan and 9 for a room shorter than the
 // text, with line 0. A refusal leaves the room as it was, and the bytes behind the text stay in any
 // case.
 pub fn plan(site: Site, room: &mut [u8]) -> Planned
@@ -107,7 +118,11 @@ pub fn plan(site: Site, room: &mut [u8]) -> Planned
 {
     let verdict = records::check(site);
     match verdict {
-        Verdict::Refused { number, line } => Planned::Refused { number, line },
+        Verdict::Refused {
+            number,
+            line,
+            place,
+        } => refused(number, line, place),
         Verdict::Accepted => plan_accepted(site, room),
     }
 }

@@ -47,8 +47,8 @@ module _ (t : List ℕ) (at k : ℕ) (s : Site) where
     unfolding leftAt
     split = rw (rows-at t at e l p)
 
-    pub left-refused : (m a : ℕ) → entryOf k n f row ≡ RefusedLine m a → leftAt t at k s ≡ refused m a
-    left-refused m a q = split ∙ rows-refused-line k s row others m a q
+    pub left-refused : (m a x : ℕ) → entryOf k n f row ≡ RefusedLine m a x → leftAt t at k s ≡ refused m a x
+    left-refused m a x q = split ∙ rows-refused-line k s row others m a x q
 
     pub left-header : (a b : ℕ) → HeaderIs k n f (s .clusters) row a b → leftAt t at k s ≡ leftAt t (e + 1) (k + 1) (withHeader s a b)
     unfolding leftAt
@@ -60,7 +60,7 @@ module _ (t : List ℕ) (at k : ℕ) (s : Site) where
     left-flow a b q d g = split ∙ rows-flow k s row others a b q d g
 
     module _ (q o a m : ℕ) (g : ClusterIs k n f (s .clusters) row q o a m) (u : Tag) (made : u ≡ tagAt (row .chars) 4 m) where
-      pub left-repeated : tagTaken (s .clusters) (k - 2) u ≡ true → leftAt t at k s ≡ refused 6 k
+      pub left-repeated : tagTaken (s .clusters) (k - 2) u ≡ true → leftAt t at k s ≡ refused 6 k 255
       left-repeated y = split ∙ rows-repeated k s row others q o a m g u made y
 
       pub left-cluster : tagTaken (s .clusters) (k - 2) u ≡ false
@@ -73,7 +73,7 @@ module _ (t : List ℕ) (at k : ℕ) (s : Site) where
   unfolding leftAt readRows
   left-none l e = rw (rows-none t at l, readRows, e)
 
-  pub left-missing : length t ≤ at → (due k n f ≡ 0 → ⊥) → leftAt t at k s ≡ refused 2 k
+  pub left-missing : length t ≤ at → (due k n f ≡ 0 → ⊥) → leftAt t at k s ≡ refused 2 k 255
   unfolding leftAt readRows
   left-missing l e = rw (rows-none t at l, readRows, ne-eqb _ _ e)
 

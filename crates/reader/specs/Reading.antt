@@ -1,4 +1,5 @@
--- The reader of a text (docs/FORMATS.md, "Refusal numbers"): the first line that is refused decides, by the lowest number. The records are all zero after a refusal.
+-- The reader of a text (docs/FORMATS.md, "Refusal numbers"): the first line that is refused decides, and in it the first test that applies. The records are all zero after
+-- a refusal.
 use mathlib.Core.Bool.{cond}
 use mathlib.Core.List.{List, [], _∷_}
 use Prim.Native.Nat.{ℕ, _+_, _-_}
@@ -9,10 +10,11 @@ use Rattle.hexline.specs.Lines.{Row, rows}
 use Rattle.site.specs.declared.Cluster.{Cluster}
 use Rattle.site.specs.declared.Flow.{Flow}
 use Rattle.site.specs.declared.Site.{Site}
+use Rattle.site.specs.declared.Verdict.{Verdict}
 use Rattle.site.specs.declared.Verdict.the-variants.{Accepted, Refused}
 use Rattle.site.specs.Records.{noSite}
 use Rattle.site.specs.Lines.{clusterOf, flowOf}
-use Rattle.site.specs.Table.{due, byKind, refusal}
+use Rattle.site.specs.Table.{due, byKind, lineVerdict}
 use Rattle.reader.specs.declared.Reading.{Reading}
 
 unfoldable pub withHeader : Site → ℕ → ℕ → Site
@@ -24,9 +26,9 @@ withCluster s i c = record { clusters = set (s .clusters) i c; flows = s .flows;
 unfoldable pub withFlow : Site → ℕ → Flow → Site
 withFlow s j f = record { clusters = s .clusters; flows = set (s .flows) j f; «cluster_count» = s .«cluster_count»; «flow_count» = s .«flow_count» }
 
--- the refusal number of line k after the records s of the lines before it; 0 for none
-abbrev pub refusalAt : ℕ → Site → Row → ℕ
-refusalAt k s r = refusal k (s .«cluster_count») (s .«flow_count») (s .clusters) r
+-- the verdict on line k after the records s of the lines before it
+abbrev pub verdictAt : ℕ → Site → Row → Verdict
+verdictAt k s r = lineVerdict k (s .«cluster_count») (s .«flow_count») (s .clusters) r
 
 -- the records with that of line k: clusters are numbered from 0 in the order of their lines, and flows too
 unfoldable pub entered : ℕ → Site → List ℕ → Site
@@ -39,13 +41,18 @@ entered k s l =
 abbrev pub accepted : Site → Reading
 accepted s = record { site = s; verdict = Accepted }
 
-abbrev pub refused : ℕ → ℕ → Reading
-refused number k = record { site = noSite; verdict = Refused number k }
+abbrev pub refused : ℕ → ℕ → ℕ → Reading
+refused number k place = record { site = noSite; verdict = Refused number k place }
+
+-- what is read on where a verdict accepts
+abbrev pub onward : Verdict → Reading → Reading
+onward Accepted next = next
+onward (Refused number k place) next = refused number k place
 
 -- the lines from line k on, after the records s: a bad line is refused, and a line that is missing is refused by 2
 unfoldable pub readRows : ℕ → Site → List Row → Reading
-readRows k s [] = cond (eqb (due k (s .«cluster_count») (s .«flow_count»)) 0) (accepted s) (refused 2 k)
-readRows k s (r ∷ rs) = cond (eqb (refusalAt k s r) 0) (readRows (k + 1) (entered k s (r .chars)) rs) (refused (refusalAt k s r) k)
+readRows k s [] = cond (eqb (due k (s .«cluster_count») (s .«flow_count»)) 0) (accepted s) (refused 2 k 255)
+readRows k s (r ∷ rs) = onward (verdictAt k s r) (readRows (k + 1) (entered k s (r .chars)) rs)
 
 unfoldable pub readText : List ℕ → Reading
 readText t = readRows 1 noSite (rows t)

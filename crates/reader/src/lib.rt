@@ -1,5 +1,5 @@
 // The reader (docs/FORMATS.md, "Site text", "Refusal numbers"): any text in, its records by value or
-// its refusal out.
+// its refusal with number, line and place out.
 mod prints;
 
 use model::wide;
@@ -8,6 +8,7 @@ use prints::print_of;
 use site::Cluster;
 use site::Entry;
 use site::Flow;
+use site::NO_PLACE;
 use site::Site;
 use site::Tag;
 use site::Verdict;
@@ -71,13 +72,17 @@ fn accepted(site: Site) -> Reading
     }
 }
 
-fn refused(number: u8, line: usize) -> Reading
-    ensures { λ r. ⌜ r ≡ refusedAs number line ⌝ }
+fn refused(number: u8, line: usize, place: u16) -> Reading
+    ensures { λ r. ⌜ r ≡ refusedAs number line place ⌝ }
 {
     let site = no_site();
     Reading {
         site,
-        verdict: Verdict::Refused { number, line },
+        verdict: Verdict::Refused {
+            number,
+            line,
+            place,
+        },
     }
 }
 
@@ -107,7 +112,11 @@ pub fn read(text: &[u8]) -> Reading
         let next = k + 1;
         let after = end + 1;
         match entry {
-            Entry::Refused { number, line } => return refused(number, line),
+            Entry::Refused {
+                number,
+                line,
+                place,
+            } => return refused(number, line, place),
             Entry::Header { clusters, flows } => {
                 cluster_count = clusters;
                 flow_count = flows;
@@ -120,15 +129,18 @@ pub fn read(text: &[u8]) -> Reading
                 place: _,
                 len,
             } => {
-                let tag = tag_of(line, &bytes, len);
-                let spelled = tag.bytes;
+                // The print has a tag of its own: of one for both the compiler would keep each
+                // word at hand while the tags before it are compared.
+                let read = tag_of(line, &bytes, len);
+                let spelled = read.bytes;
                 let print = print_of(&spelled);
+                let tag = tag_of(line, &bytes, len);
                 let i = k - 2;
                 let mut j = first_alike(&prints, i, print);
                 while j < i {
                     let earlier = clusters[j];
                     if same_tag(earlier.tag, tag) {
-                        return refused(6, k);
+                        return refused(6, k, NO_PLACE);
                     }
                     j += 1;
                 }
@@ -165,5 +177,5 @@ pub fn read(text: &[u8]) -> Reading
             flow_count,
         });
     }
-    refused(2, k)
+    refused(2, k, NO_PLACE)
 }

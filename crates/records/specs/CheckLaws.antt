@@ -1,80 +1,97 @@
--- Laws of the check of records: where the first bad record stands, what each cluster is refused by, and the counts of an accepted site.
-use mathlib.Core.Path.{_≡_}
-use mathlib.Core.Bool.{true, false, not}
-use mathlib.Core.List.{List, [], _∷_}
-use mathlib.Core.Logic.{inl, inr}
-use Prim.Native.Nat.{ℕ, suc, _+_, _-_, _≤_, _<_}
+-- Laws of the check of records: where the first bad record stands, what each cluster is refused by, what its verdict has in common with those of the records, and the
+-- counts of an accepted site.
+use mathlib.Core.Path.{_≡_, refl}
+use mathlib.Core.Bool.{Bool, true, false}
+use mathlib.Core.List.{List}
+use Prim.Native.Nat.{ℕ, zero, suc, _+_, _-_, _≤_, _<_}
 use native.Mathlib.Omega.{arith}
 use lib.ListN.{getD}
-use lib.Dec.{leb, ltb}
-use borrow.Author.Tests.{eq-eqb, ne-eqb, lt-ltb, le-ltb, leb-true, leb-false, ltb-false, not-false}
-use Rattle.hexline.specs.Loops.{decide}
-use Rattle.hexline.specs.Digits.{between}
-use Rattle.hexline.specs.LineLaws.{none-of}
-use Rattle.hexline.specs.DigitLaws.{between-high, between-in, between-true}
 use Rattle.site.specs.declared.Cluster.{Cluster}
 use Rattle.site.specs.declared.Site.{Site}
+use Rattle.site.specs.declared.Verdict.{Verdict}
 use Rattle.site.specs.declared.Verdict.the-variants.{Accepted, Refused}
-use Rattle.site.specs.Records.{absent, headerOutside, clusterOutside, wrongParent, tagTaken}
-use Rattle.records.specs.Check.{clusterRefusal, firstBad, clustersVerdict, flowsVerdict, orElse, checked}
-
--- from lo on, a number is outside its range exactly if it is above
-pub outside-above : (lo hi b : ℕ) → lo ≤ b → not (between lo hi b) ≡ ltb hi b
-outside-above lo hi b l = elim (decide (leb b hi)) [
-  | inl e ↦ let h = leb-true b hi e in rw (between-in lo hi b l h, le-ltb hi b h)
-  | inr e ↦ let h = leb-false b hi e in rw (between-high lo hi b h, lt-ltb hi b h)
-]
+use Rattle.site.specs.Records.{absent, wrongParent, tagTaken}
+use Rattle.site.specs.Fields.{headerVerdict, clusterVerdict}
+use Rattle.site.specs.FieldLaws.{header-counts}
+use Rattle.site.specs.Table.{refusedIf, orElse}
+use Rattle.records.specs.Check.{clusterChecked, flowChecked, eachOf, clustersVerdict, flowsVerdict, checked}
 
 -- record i of m, all before it being good: it is refused, or those behind it decide, or there is none
-module _ (refusal : ℕ → ℕ) (first m i : ℕ) where
-  pub bad-here : (number : ℕ) → i < m → refusal i ≡ number → 0 < number → firstBad refusal first (m - i) i ≡ Refused number (first + i)
-  unfolding firstBad
-  bad-here number l e h = let z : m - i ≡ suc (m - (i + 1)) = omega arith in rw (z, firstBad, e, ne-eqb number 0 (λ q. omega arith))
+module _ (verdict : ℕ → Verdict) (m i : ℕ) where
+  pub bad-here : (number k p : ℕ) → i < m → verdict i ≡ Refused number k p → eachOf verdict (m - i) i ≡ Refused number k p
+  unfolding eachOf
+  bad-here number k p l e = let z : m - i ≡ suc (m - (i + 1)) = omega arith in rw (z, eachOf, e)
 
-  pub bad-later : i < m → refusal i ≡ 0 → firstBad refusal first (m - i) i ≡ firstBad refusal first (m - (i + 1)) (i + 1)
-  unfolding firstBad
-  bad-later l e = let z : m - i ≡ suc (m - (i + 1)) = omega arith in rw (z, firstBad, eq-eqb _ _ e)
+  pub bad-later : i < m → verdict i ≡ Accepted → eachOf verdict (m - i) i ≡ eachOf verdict (m - (i + 1)) (i + 1)
+  unfolding eachOf
+  bad-later l e = let z : m - i ≡ suc (m - (i + 1)) = omega arith in rw (z, eachOf, e)
 
-  pub bad-none : m ≤ i → firstBad refusal first (m - i) i ≡ Accepted
-  unfolding firstBad
+  pub bad-none : m ≤ i → eachOf verdict (m - i) i ≡ Accepted
+  unfolding eachOf
   bad-none l = let z : m - i ≡ 0 = omega arith in rw z
 
--- cluster i by the first test that it fails
+-- cluster i by the first verdict that refuses it
 module _ (cs : List Cluster) (i : ℕ) where
   abbrev here : Cluster
   here = getD cs i absent
 
-  pub refused-by-4 : clusterOutside here ≡ true → clusterRefusal cs i ≡ 4
-  unfolding clusterRefusal
-  refused-by-4 p = rw p
+  pub refused-by-field : (number k p : ℕ) → clusterVerdict (2 + i) here ≡ Refused number k p → clusterChecked cs i ≡ Refused number k p
+  unfolding clusterChecked
+  refused-by-field number k p e = rw e
 
-  pub refused-by-5 : clusterOutside here ≡ false → wrongParent i (here .parent) ≡ true → clusterRefusal cs i ≡ 5
-  unfolding clusterRefusal
-  refused-by-5 p q = rw (p, q)
+  module _ (fine : clusterVerdict (2 + i) here ≡ Accepted) where
+    pub refused-by-5 : wrongParent i (here .parent) ≡ true → clusterChecked cs i ≡ Refused 5 (2 + i) 255
+    unfolding clusterChecked
+    refused-by-5 q = rw (fine, q)
 
-  pub refused-by-6 : clusterOutside here ≡ false → wrongParent i (here .parent) ≡ false → tagTaken cs i (here .tag) ≡ true → clusterRefusal cs i ≡ 6
-  unfolding clusterRefusal
-  refused-by-6 p q t = rw (p, q, t)
+    pub refused-by-6 : wrongParent i (here .parent) ≡ false → tagTaken cs i (here .tag) ≡ true → clusterChecked cs i ≡ Refused 6 (2 + i) 255
+    unfolding clusterChecked
+    refused-by-6 q t = rw (fine, q, t)
 
-  pub refused-by-none : clusterOutside here ≡ false → wrongParent i (here .parent) ≡ false → tagTaken cs i (here .tag) ≡ false → clusterRefusal cs i ≡ 0
-  unfolding clusterRefusal
-  refused-by-none p q t = rw (p, q, t)
+    pub refused-by-none : wrongParent i (here .parent) ≡ false → tagTaken cs i (here .tag) ≡ false → clusterChecked cs i ≡ Accepted
+    unfolding clusterChecked
+    refused-by-none q t = rw (fine, q, t)
 
-module _ (s : Site) where
-  abbrev n : ℕ
-  n = s .«cluster_count»
+-- what holds of an acceptance and of each verdict that may decide holds of the one that does
+module _ (P : Verdict → Type 0) (taken : P Accepted) where
+  either-has : (a b : Verdict) → P a → P b → P (orElse a b)
+  either-has Accepted b p q = q
+  either-has (Refused m k place) b p q = p
 
-  abbrev f : ℕ
-  f = s .«flow_count»
+  test-has : (m k : ℕ) (t : Bool) → P (Refused m k 255) → P (refusedIf m k t)
+  test-has m k true p = p
+  test-has m k false p = taken
 
-  -- within the counts' ranges the records decide
-  pub records-decide : 1 ≤ n → n ≤ 64 → f ≤ 128 → checked s ≡ orElse (clustersVerdict (s .clusters) n) (flowsVerdict n (s .flows) f)
-  unfolding checked headerOutside
-  records-decide l h g = rw (between-in 1 64 n l h, le-ltb 128 f g)
+  each-has : (verdict : ℕ → Verdict) (m i : ℕ) → ((x : ℕ) → i ≤ x → x < i + m → P (verdict x)) → P (eachOf verdict m i)
+  unfolding eachOf
+  each-has verdict zero i h = taken
+  each-has verdict (suc m) i h =
+      either-has (verdict i) (eachOf verdict m (i + 1)) (h i (omega arith) (omega arith)) (each-has verdict m (i + 1) (λ x a b. h x (omega arith) (omega arith)))
 
-  pub accepted-counts : checked s ≡ Accepted → (1 ≤ n) × (n ≤ 64) × (f ≤ 128)
-  unfolding checked headerOutside
-  accepted-counts e = elim (decide (headerOutside 1 n f)) [
-    | inl q ↦ let z : Refused 4 1 ≡ Accepted = rw q at e in absurd (let z′ : _≡_ {A = ℕ} 0 1 = cc in omega arith)
-    | inr q ↦ let h = none-of (not (between 1 64 n) ∷ ltb 128 f ∷ []) q in let r = between-true 1 64 n (not-false _ (h .0)) in (r .0, r .1, ltb-false 128 f (h .1 .0))
-  ]
+  pub cluster-has : (cs : List Cluster) (i : ℕ) → P (clusterVerdict (2 + i) (getD cs i absent)) → P (Refused 5 (2 + i) 255) → P (Refused 6 (2 + i) 255) → P (clusterChecked cs i)
+  unfolding clusterChecked
+  cluster-has cs i fields five six =
+      let c : Cluster = getD cs i absent in
+      let parent = refusedIf 5 (2 + i) (wrongParent i (c .parent)) in
+      let tag = refusedIf 6 (2 + i) (tagTaken cs i (c .tag)) in
+      either-has (clusterVerdict (2 + i) c) (orElse parent (orElse tag Accepted)) fields
+      (either-has parent (orElse tag Accepted) (test-has 5 (2 + i) (wrongParent i (c .parent)) five)
+      (either-has tag Accepted (test-has 6 (2 + i) (tagTaken cs i (c .tag)) six) taken))
+
+  pub check-has : (s : Site) → let n : ℕ = s .«cluster_count» in let f : ℕ = s .«flow_count» in
+      P (headerVerdict 1 1 n f) → ((i : ℕ) → i < n → P (clusterChecked (s .clusters) i)) → ((j : ℕ) → j < f → P (flowChecked n (s .flows) j)) → P (checked s)
+  unfolding checked clustersVerdict flowsVerdict
+  check-has s header clusters flows =
+      let n : ℕ = s .«cluster_count» in let f : ℕ = s .«flow_count» in
+      either-has (headerVerdict 1 1 n f) (orElse (clustersVerdict (s .clusters) n) (flowsVerdict n (s .flows) f)) header
+      (either-has (clustersVerdict (s .clusters) n) (flowsVerdict n (s .flows) f)
+      (each-has (clusterChecked (s .clusters)) n 0 (λ i a l. clusters i (omega arith)))
+      (each-has (flowChecked n (s .flows)) f 0 (λ j a l. flows j (omega arith))))
+
+pub both-accept : (a b : Verdict) → orElse a b ≡ Accepted → (a ≡ Accepted) × (b ≡ Accepted)
+both-accept Accepted b e = (refl, e)
+both-accept (Refused m k p) b e = absurd (let z : _≡_ {A = ℕ} 0 1 = cc in omega arith)
+
+pub accepted-counts : (s : Site) → checked s ≡ Accepted → let n : ℕ = s .«cluster_count» in (1 ≤ n) × (n ≤ 64) × (s .«flow_count» ≤ 128)
+unfolding checked
+accepted-counts s e = header-counts 1 1 (s .«cluster_count») (s .«flow_count») (both-accept (headerVerdict 1 1 (s .«cluster_count») (s .«flow_count»)) _ e .0)

@@ -1,84 +1,57 @@
-// The check of records that a caller hands in (docs/FORMATS.md, "Refusal numbers": the writer's and
-// the planner's 4, 5 and 6).
-use model::Order;
+// The check of records that a caller hands in (docs/FORMATS.md, "Records handed in").
 use model::wide;
 use site::Cluster;
 use site::Flow;
-use site::MOST_CLUSTERS;
-use site::MOST_FLOWS;
-use site::MOST_TAG;
-use site::MOST_TIME;
+use site::NO_PLACE;
 use site::Site;
 use site::Tag;
 use site::Verdict;
 use site::bad_parent;
+use site::flow_verdict;
+use site::header_verdict;
+use site::untagged_verdict;
 use tags::same_tag;
 ghost use mathlib.Core.Path.{_≡_};
 ghost use Prim.Native.Nat.{_≤_};
-ghost use Rattle.site.specs.Records.{printableTag, clusterOutside, flowOutside};
+ghost use Rattle.site.specs.Fields.{clusterVerdict, tagVerdict};
 ghost use Rattle.records.specs.Check.{clustersVerdict, flowsVerdict, checked};
 
-// Whether the bytes of a tag up to its length are all from 21 to 7E.
-fn printable_tag(tag: Tag) -> bool
+// The verdict on the tag bytes of a cluster in line k: the first that is not from 21 to 7E is refused
+// at its place, behind the four bytes before the tag.
+fn tag_verdict(k: usize, tag: Tag) -> Verdict
     requires { ⌜ tag .len ≤ 64 ⌝ }
-    ensures { λ r. ⌜ r ≡ printableTag tag ⌝ }
+    ensures { λ r. ⌜ r ≡ tagVerdict k tag ⌝ }
 {
-    let n = wide(tag.len);
+    let len = tag.len;
     let bytes = tag.bytes;
-    let mut i: usize = 0;
-    while i < n {
-        if bytes[i] < 33 {
-            return false;
-        }
-        if bytes[i] > 126 {
-            return false;
+    let mut i: u8 = 0;
+    while i < len {
+        let b = bytes[wide(i)];
+        if (b < 33) | (b > 126) {
+            return Verdict::Refused {
+                number: 12,
+                line: k,
+                place: 4 + i as u16,
+            };
         }
         i += 1;
     }
-    true
+    Verdict::Accepted
 }
 
-// Whether a cluster's order, tag length or a tag byte is outside its range.
-fn outside_cluster(c: Cluster) -> bool
-    ensures { λ r. ⌜ r ≡ clusterOutside c ⌝ }
+// The verdict on the fields of a cluster in line k.
+fn cluster_verdict(k: usize, c: Cluster) -> Verdict
+    ensures { λ r. ⌜ r ≡ clusterVerdict k c ⌝ }
 {
     let tag = c.tag;
-    if c.order > Order::LARGEST {
-        return true;
-    }
-    if tag.len < 1 {
-        return true;
-    }
-    if tag.len > MOST_TAG {
-        return true;
-    }
-    !printable_tag(tag)
+    let before = untagged_verdict(k, c.order, tag.len);
+    let Verdict::Accepted = before else {
+        return before;
+    };
+    tag_verdict(k, tag)
 }
 
-// Whether a flow names a cluster that is not there, or its period or deadline is outside its range.
-fn outside_flow(f: Flow, clusters: u8) -> bool
-    ensures { λ r. ⌜ r ≡ flowOutside clusters f ⌝ }
-{
-    let count = clusters as u16;
-    if f.source >= count {
-        return true;
-    }
-    if f.sink >= count {
-        return true;
-    }
-    if f.period < 1 {
-        return true;
-    }
-    if f.period > MOST_TIME {
-        return true;
-    }
-    if f.deadline < 1 {
-        return true;
-    }
-    f.deadline > MOST_TIME
-}
-
-// The first of the first n clusters that is refused by 4, 5 or 6.
+// The first of the first n clusters that is refused, by a field, by 5 or by 6.
 fn check_clusters(clusters: [Cluster; 64], n: usize) -> Verdict
     requires { ⌜ n ≤ 64 ⌝ }
     ensures { λ r. ⌜ r ≡ clustersVerdict clusters n ⌝ }
@@ -86,16 +59,15 @@ fn check_clusters(clusters: [Cluster; 64], n: usize) -> Verdict
     let mut i: usize = 0;
     while i < n {
         let cluster = clusters[i];
-        if outside_cluster(cluster) {
-            return Verdict::Refused {
-                number: 4,
-                line: 2 + i,
-            };
-        }
+        let fields = cluster_verdict(2 + i, cluster);
+        let Verdict::Accepted = fields else {
+            return fields;
+        };
         if bad_parent(i, cluster.parent) {
             return Verdict::Refused {
                 number: 5,
                 line: 2 + i,
+                place: NO_PLACE,
             };
         }
         let mut j: usize = 0;
@@ -105,6 +77,7 @@ fn check_clusters(clusters: [Cluster; 64], n: usize) -> Verdict
                 return Verdict::Refused {
                     number: 6,
                     line: 2 + i,
+                    place: NO_PLACE,
                 };
             }
             j += 1;
@@ -114,7 +87,7 @@ fn check_clusters(clusters: [Cluster; 64], n: usize) -> Verdict
     Verdict::Accepted
 }
 
-// The first of the first f flows that is refused by 4, between so many clusters.
+// The first of the first f flows that is refused by a field, between so many clusters.
 fn check_flows(flows: [Flow; 128], f: usize, clusters: u8) -> Verdict
     requires { ⌜ f ≤ 128 ⌝ }
     ensures { λ r. ⌜ r ≡ flowsVerdict clusters flows f ⌝ }
@@ -123,40 +96,31 @@ fn check_flows(flows: [Flow; 128], f: usize, clusters: u8) -> Verdict
     let mut j: usize = 0;
     while j < f {
         let flow = flows[j];
-        if outside_flow(flow, clusters) {
-            return Verdict::Refused {
-                number: 4,
-                line: first + j,
-            };
-        }
+        let fields = flow_verdict(first + j, clusters, flow);
+        let Verdict::Accepted = fields else {
+            return fields;
+        };
         j += 1;
     }
     Verdict::Accepted
 }
 
-// The verdict on records: 4 (also for counts and tag lengths out of range), 5 or 6 with the line
-// that the record would have. What stands behind the counts and tag lengths is not looked at.
+// The verdict on records: 10 to 14, 5 or 6 with the line that the record would have, and a field's
+// place in that line. What stands behind the counts and tag lengths is not looked at.
 pub fn check(site: Site) -> Verdict
     ensures { λ r. ⌜ r ≡ checked site ⌝ }
 {
     let n = site.cluster_count;
     let f = site.flow_count;
-    if n < 1 {
-        return Verdict::Refused { number: 4, line: 1 };
-    }
-    if n > MOST_CLUSTERS {
-        return Verdict::Refused { number: 4, line: 1 };
-    }
-    if f > MOST_FLOWS {
-        return Verdict::Refused { number: 4, line: 1 };
-    }
+    let header = header_verdict(1, 1, n, f);
+    let Verdict::Accepted = header else {
+        return header;
+    };
     let clusters = site.clusters;
     let first = check_clusters(clusters, wide(n));
-    match first {
-        Verdict::Refused { number, line } => Verdict::Refused { number, line },
-        Verdict::Accepted => {
-            let flows = site.flows;
-            check_flows(flows, wide(f), n)
-        }
-    }
+    let Verdict::Accepted = first else {
+        return first;
+    };
+    let flows = site.flows;
+    check_flows(flows, wide(f), n)
 }

@@ -11,7 +11,7 @@ use native.Mathlib.Omega.{arith}
 use lib.ListN.{length, take, drop}
 use lib.Seq.{take-all, take-take, take-add, drop-at, length-take-le, take-nil}
 use lib.Dec.{ltb, eqb}
-use borrow.Author.Tests.{ltb-true, ltb-false, lt-ltb, eqb-true, eqb-false, ne-eqb}
+use borrow.Author.Tests.{ltb-true, ltb-false, lt-ltb, ne-eqb}
 use Rattle.hexline.specs.Loops.{decide}
 use Rattle.hexline.specs.Digits.{byteAt}
 use Rattle.hexline.specs.Lines.{Row, rows, lineLength, malformed}
@@ -19,8 +19,10 @@ use Rattle.hexline.specs.LineLaws.{line-within, rows-first}
 use Rattle.site.specs.declared.Site.{Site}
 use Rattle.site.specs.Records.{noSite}
 use Rattle.site.specs.Lines.{clusterOf, flowOf}
-use Rattle.site.specs.Table.{due, refusal}
-use Rattle.reader.specs.Reading.{withHeader, withCluster, withFlow, refusalAt, entered, refused, readRows, readText}
+use Rattle.site.specs.declared.Verdict.{Verdict}
+use Rattle.site.specs.declared.Verdict.the-variants.{Accepted, Refused}
+use Rattle.site.specs.Table.{due, lineVerdict}
+use Rattle.reader.specs.Reading.{withHeader, withCluster, withFlow, verdictAt, entered, refused, readRows, readText}
 use Rattle.reader.specs.ReadLaws.{rows-taken, rows-refused}
 use Rattle.roundtrip.specs.Due.{cluster-due, flow-due, none-due}
 use Rattle.records.specs.Checked.{header-in}
@@ -52,17 +54,24 @@ row-kept t m h l =
     )
 
 -- a text whose first line has more than 136 characters is refused by 1
-long-refused : (k : ℕ) (s : Site) (t : List ℕ) → 136 < lineLength t → readRows k s (rows t) ≡ refused 1 k
-unfolding refusal malformed
+long-refused : (k : ℕ) (s : Site) (t : List ℕ) → 136 < lineLength t → readRows k s (rows t) ≡ refused 1 k 255
+unfolding lineVerdict malformed
 long-refused k s t l =
     let a : ℕ = lineLength t in
     let h : length (take a t) ≡ a = length-take-le a t (line-within t) in
     rw (rows-first t (omega (arith, line-within t)))
-    (rows-refused k s _ _ 1 (λ z. omega arith) (rw (h, ne-eqb a 0 (λ z. omega arith), lt-ltb 136 a l)))
+    (rows-refused k s _ _ 1 k 255 (rw (h, ne-eqb a 0 (λ z. omega arith), lt-ltb 136 a l)))
+
+-- two texts that begin with one line are read alike if what follows it is, where it is taken
+same-behind : (k : ℕ) (s : Site) (r : Row) (rs us : List Row)
+    → (verdictAt k s r ≡ Accepted → readRows (k + 1) (entered k s (r .chars)) rs ≡ readRows (k + 1) (entered k s (r .chars)) us)
+    → (v : Verdict) → verdictAt k s r ≡ v → readRows k s (r ∷ rs) ≡ readRows k s (r ∷ us)
+same-behind k s r rs us same Accepted e = rw (rows-taken k s r rs e, rows-taken k s r us e) (same e)
+same-behind k s r rs us same (Refused m a p) e = rw (rows-refused k s r rs m a p e, rows-refused k s r us m a p e)
 
 -- a cut at m changes nothing if it changes nothing of what follows a line that is taken
 cut-line : (k : ℕ) (s : Site) (t : List ℕ) (m : ℕ) → 136 < m
-    → ((r : Row) (rest : List ℕ) (left : ℕ) → m ≡ left + (length (r .chars) + 1) → refusalAt k s r ≡ 0
+    → ((r : Row) (rest : List ℕ) (left : ℕ) → m ≡ left + (length (r .chars) + 1) → verdictAt k s r ≡ Accepted
     → readRows (k + 1) (entered k s (r .chars)) (rows (take left rest)) ≡ readRows (k + 1) (entered k s (r .chars)) (rows rest))
     → readRows k s (rows (take m t)) ≡ readRows k s (rows t)
 cut-line k s t m far next = elim (decide (ltb m (length t))) [
@@ -75,16 +84,8 @@ cut-line k s t m far next = elim (decide (ltb m (length t))) [
         let r : Row = record { chars = take a t; ended = true } in
         let rest : List ℕ = drop (suc a) t in
         let both = row-kept t m h l in
-        elim (decide (eqb (refusalAt k s r) 0)) [
-          | inl z ↦
-              let y = eqb-true (refusalAt k s r) 0 z in
-              rw (both .0, both .1, rows-taken k s r (rows (take (m - suc a) rest)) y, rows-taken k s r (rows rest) y)
-              (next r rest (m - suc a) (omega (arith, length-take-le a t (omega arith))) y)
-          | inr z ↦
-              let y = eqb-false (refusalAt k s r) 0 z in
-              let number = refusalAt k s r in
-              rw (both .0, both .1, rows-refused k s r (rows (take (m - suc a) rest)) number y refl, rows-refused k s r (rows rest) number y refl)
-        ]
+        rw (both .0, both .1)
+        (same-behind k s r (rows (take (m - suc a) rest)) (rows rest) (λ y. next r rest (m - suc a) (omega (arith, length-take-le a t (omega arith))) y) (verdictAt k s r) refl)
   ]
 ]
 
@@ -121,6 +122,6 @@ unfolding readText noSite withHeader entered due
 verdict-in-11859 t m h = cut-line 1 noSite t m (omega arith) (λ r rest left p z.
     let l : List ℕ = r .chars in
     let long : length l / 2 ≡ 4 = taken-length 1 0 0 (noSite .clusters) r z in
-    let counts = header-in (byteAt l 1) (byteAt l 2) (byteAt l 3) (taken-header 1 0 0 (noSite .clusters) r z refl .1) .1 in
+    let counts = header-in 1 (byteAt l 1) (byteAt l 2) (byteAt l 3) (taken-header 1 0 0 (noSite .clusters) r z refl .1) .1 in
     let even = taken-well 1 0 0 (noSite .clusters) r z .even in
     cut-clusters (byteAt l 2) 2 (withHeader noSite (byteAt l 2) (byteAt l 3)) rest left (omega arith) (omega arith) (omega arith))

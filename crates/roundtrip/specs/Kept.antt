@@ -9,11 +9,12 @@ use lib.ListN.{getD, replicate, length-replicate}
 use lib.Dec.{eqb}
 use borrow.Author.Tests.{eqb-true}
 use Rattle.hexline.specs.Loops.{decide, every-same, filled, filled-more, filled-at}
-use Rattle.hexline.specs.Digits.{between}
 use Rattle.site.specs.declared.Tag.{Tag}
 use Rattle.site.specs.declared.Cluster.{Cluster}
 use Rattle.site.specs.declared.Site.{Site}
-use Rattle.site.specs.Records.{noCluster, noFlow, absent, sameTag, printableTag, clusterOutside, tagTaken}
+use Rattle.site.specs.Records.{noCluster, noFlow, absent, sameTag, tagTaken}
+use Rattle.site.specs.Fields.{tagByte, clusterVerdict, tagVerdict}
+use Rattle.site.specs.FieldLaws.{values-alike, cluster-parts}
 use Rattle.reader.specs.Reading.{withCluster, withFlow}
 
 -- the bytes up to the length, zeros behind
@@ -53,13 +54,13 @@ module _ (t : Tag) (short : t .len ≤ 64) where
   unfolding keptTag
   kept-byte i l = filled-at (λ x. getD (t .bytes) x 0) (replicate 64 0) (t .len) 0 (omega (arith, length-replicate {A = ℕ} 64 0)) i l
 
-  kept-printable : printableTag (keptTag t) ≡ printableTag t
-  unfolding printableTag keptTag
-  kept-printable = every-same _ _ (t .len) (λ i l. ap (between 33 126) (kept-byte i l))
+  kept-tag-verdict : (k : ℕ) → tagVerdict k (keptTag t) ≡ tagVerdict k t
+  unfolding tagVerdict keptTag
+  kept-tag-verdict k = values-alike k 4 (replicate (t .len) tagByte) (keptTag t .bytes) (t .bytes) (λ i l. kept-byte i (omega (arith, length-replicate (t .len) tagByte)))
 
-pub kept-outside : (c : Cluster) → c .tag .len ≤ 64 → clusterOutside (keptCluster c) ≡ clusterOutside c
-unfolding clusterOutside keptCluster keptTag
-kept-outside c h = rw (kept-printable (c .tag) h)
+pub kept-verdict : (k : ℕ) (c : Cluster) → c .tag .len ≤ 64 → clusterVerdict k (keptCluster c) ≡ clusterVerdict k c
+unfolding keptCluster keptTag
+kept-verdict k c h = rw (cluster-parts k (keptCluster c), cluster-parts k c, kept-tag-verdict (c .tag) h k)
 
 kept-same : (a b : Tag) → a .len ≤ 64 → b .len ≤ 64 → sameTag (keptTag a) (keptTag b) ≡ sameTag a b
 unfolding sameTag keptTag

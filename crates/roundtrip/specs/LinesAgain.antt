@@ -15,10 +15,12 @@ use Rattle.hexline.specs.Lines.{Row, onto, rows}
 use Rattle.hexline.specs.LineLaws.{AllFalse, none-of, WellFormed, well-formed}
 use Rattle.hexroom.specs.RoundTrip.{fieldsAt, total, fields-again, bytes-length, bytes-at, number-one, encode-decode}
 use Rattle.site.specs.declared.Cluster.{Cluster}
-use Rattle.site.specs.Records.{headerOutside, clusterOutside, flowOutside, wrongParent, tagTaken}
+use Rattle.site.specs.declared.Verdict.the-variants.{Accepted}
+use Rattle.site.specs.Records.{wrongParent, tagTaken}
+use Rattle.site.specs.Fields.{headerVerdict, clusterVerdict, flowVerdict}
 use Rattle.site.specs.Lines.{size, tagAt, clusterOf, flowOf}
-use Rattle.site.specs.Table.{byKind, due, wrongKind, wrongLength, outside, misplaced, repeated, lineTests, refusal}
-use Rattle.site.specs.TableLaws.{lowest-none}
+use Rattle.site.specs.Table.{byKind, due, wrongKind, wrongLength, fieldsVerdict, misplaced, repeated, lineVerdict}
+use Rattle.site.specs.TableLaws.{Passed, line-passed}
 use Rattle.writer.specs.Text.{headerWidths, clusterWidths, flowWidths, headerBytes, clusterBytes, flowBytes}
 
 -- ---- the text of rows
@@ -83,23 +85,22 @@ cluster-again l kind short e =
 
 -- ---- what a line that is taken says of itself
 
-module _ (k n f : ℕ) (cs : List Cluster) (r : Row) (z : refusal k n f cs r ≡ 0) where
+module _ (k n f : ℕ) (cs : List Cluster) (r : Row) (z : lineVerdict k n f cs r ≡ Accepted) where
   abbrev d : ℕ
   d = due k n f
 
   abbrev l : List ℕ
   l = r .chars
 
-  tests : AllFalse (lineTests k n f r ++ (repeated d k cs l ∷ []))
-  unfolding refusal
-  tests = lowest-none 0 (lineTests k n f r ++ (repeated d k cs l ∷ [])) z
+  passed : Passed k n f cs r
+  passed = line-passed k n f cs r z
 
   pub taken-well : WellFormed 136 r
-  taken-well = well-formed 136 r (tests .0)
+  taken-well = well-formed 136 r (passed .well)
 
   kinds : AllFalse (eqb d 0 ∷ not (eqb (byteAt l 0) d) ∷ [])
   unfolding wrongKind
-  kinds = none-of (eqb d 0 ∷ not (eqb (byteAt l 0) d) ∷ []) (tests .1 .0)
+  kinds = none-of (eqb d 0 ∷ not (eqb (byteAt l 0) d) ∷ []) (passed .kind)
 
   pub taken-is-due : d ≡ 0 → ⊥
   taken-is-due = eqb-false d 0 (kinds .0)
@@ -109,7 +110,7 @@ module _ (k n f : ℕ) (cs : List Cluster) (r : Row) (z : refusal k n f cs r ≡
 
   pub taken-length : length l / 2 ≡ byKind d 4 (4 + byteAt l 3) 11
   unfolding wrongLength size
-  taken-length = eqb-true (length l / 2) (byKind d 4 (4 + byteAt l 3) 11) (not-false (eqb (length l / 2) (byKind d 4 (4 + byteAt l 3) 11)) (tests .1 .1 .0))
+  taken-length = eqb-true (length l / 2) (byKind d 4 (4 + byteAt l 3) 11) (not-false (eqb (length l / 2) (byKind d 4 (4 + byteAt l 3) 11)) (passed .long))
 
   -- it is the line of its bytes
   pub line-again : (bs : List ℕ) (rest : List Row) → bs ≡ bytesOf l → joined (r ∷ rest) ≡ lineOf bs ++ joined rest
@@ -119,15 +120,15 @@ module _ (k n f : ℕ) (cs : List Cluster) (r : Row) (z : refusal k n f cs r ≡
       let same : hexes bs ≡ l = ap hexes e ∙ encode-decode l (w .digits) (w .even) in
       rw (same, w .ended, append-assoc l (10 ∷ []) (joined rest))
 
-  pub taken-header : d ≡ 1 → (byteAt l 0 ≡ 1) × (headerOutside (byteAt l 1) (byteAt l 2) (byteAt l 3) ≡ false)
-  unfolding outside
-  taken-header is = (taken-kind ∙ is, rw is at (tests .1 .1 .1 .0))
+  pub taken-header : d ≡ 1 → (byteAt l 0 ≡ 1) × (headerVerdict k (byteAt l 1) (byteAt l 2) (byteAt l 3) ≡ Accepted)
+  unfolding fieldsVerdict
+  taken-header is = (taken-kind ∙ is, rw is at (passed .fields))
 
   pub taken-cluster : d ≡ 2
-      → (byteAt l 0 ≡ 2) × (clusterOutside (clusterOf l) ≡ false) × (wrongParent (k - 2) (clusterOf l .parent) ≡ false) × (tagTaken cs (k - 2) (clusterOf l .tag) ≡ false)
-  unfolding outside misplaced repeated
-  taken-cluster is = (taken-kind ∙ is, rw is at (tests .1 .1 .1 .0), rw is at (tests .1 .1 .1 .1 .0), rw is at (tests .1 .1 .1 .1 .1 .0))
+      → (byteAt l 0 ≡ 2) × (clusterVerdict k (clusterOf l) ≡ Accepted) × (wrongParent (k - 2) (clusterOf l .parent) ≡ false) × (tagTaken cs (k - 2) (clusterOf l .tag) ≡ false)
+  unfolding fieldsVerdict misplaced repeated
+  taken-cluster is = (taken-kind ∙ is, rw is at (passed .fields), rw is at (passed .below), rw is at (passed .alone))
 
-  pub taken-flow : d ≡ 3 → (byteAt l 0 ≡ 3) × (flowOutside n (flowOf l) ≡ false)
-  unfolding outside
-  taken-flow is = (taken-kind ∙ is, rw is at (tests .1 .1 .1 .0))
+  pub taken-flow : d ≡ 3 → (byteAt l 0 ≡ 3) × (flowVerdict k n (flowOf l) ≡ Accepted)
+  unfolding fieldsVerdict
+  taken-flow is = (taken-kind ∙ is, rw is at (passed .fields))

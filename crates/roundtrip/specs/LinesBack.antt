@@ -14,12 +14,15 @@ use Rattle.hexroom.specs.Room.{hexes-length}
 use Rattle.hexroom.specs.RoundTrip.{Fit, fieldsAt, total, fields-back, tail-back, number-one, written-well}
 use Rattle.site.specs.declared.Cluster.{Cluster}
 use Rattle.site.specs.declared.Flow.{Flow}
-use Rattle.site.specs.Records.{headerOutside, clusterOutside, flowOutside, wrongParent, tagTaken}
+use Rattle.site.specs.declared.Verdict.the-variants.{Accepted}
+use Rattle.site.specs.Records.{wrongParent, tagTaken}
+use Rattle.site.specs.Fields.{headerValues, flowValues, headerVerdict, clusterVerdict, flowVerdict}
 use Rattle.site.specs.Lines.{size, tagAt, clusterOf, flowOf}
-use Rattle.site.specs.Table.{byKind, due, wrongKind, wrongLength, outside, misplaced, repeated, refusal}
+use Rattle.site.specs.Table.{byKind, due, wrongKind, wrongLength, fieldsVerdict, misplaced, repeated, lineVerdict}
+use Rattle.site.specs.TableLaws.{passed-line}
 use Rattle.writer.specs.Text.{headerWidths, clusterWidths, flowWidths, headerBytes, clusterBytes, flowBytes}
 use Rattle.records.specs.Checked.{HeaderIn, ClusterIn, FlowIn}
-use Rattle.roundtrip.specs.Kept.{keptTag, keptCluster, kept-outside}
+use Rattle.roundtrip.specs.Kept.{keptTag, keptCluster, kept-verdict}
 
 -- the row of a line of bytes
 abbrev pub rowOf : List ℕ → Row
@@ -38,35 +41,39 @@ pub flow-size : (f : Flow) → length (flowBytes f) ≡ 11
 unfolding flowBytes fieldBytes numberBytes
 flow-size f = refl
 
--- a line of the kind d that is due passes the tests 1, 2 and 3: it is taken if it passes 4, 5 and 6
+-- a line of the kind d that is due passes the tests 1, 2 and 3: it is taken if its fields are good and it passes 5 and 6
 line-taken : (d k n f : ℕ) (cs : List Cluster) (bs : List ℕ) → let l : List ℕ = hexes bs in
     due k n f ≡ d → (d ≡ 0 → ⊥) → byteAt l 0 ≡ d → 0 < length bs → length bs ≤ 68 → length bs ≡ byKind d 4 (4 + byteAt l 3) 11
-    → outside d n l ≡ false → misplaced d k l ≡ false → repeated d k cs l ≡ false → refusal k n f cs (rowOf bs) ≡ 0
-unfolding refusal wrongKind wrongLength size
-line-taken d k n f cs bs is z kind some few long t₄ t₅ t₆ =
+    → fieldsVerdict d k n l ≡ Accepted → misplaced d k l ≡ false → repeated d k cs l ≡ false → lineVerdict k n f cs (rowOf bs) ≡ Accepted
+unfolding wrongKind wrongLength size
+line-taken d k n f cs bs is z kind some few long good t₅ t₆ =
     let l : List ℕ = hexes bs in
     let half : length l / 2 ≡ length bs = omega (arith, hexes-length bs) in
-    let well = written-well 136 bs some (omega arith) in
-    simp (is, well, ne-eqb d 0 z, eq-eqb (byteAt l 0) d kind, half, eq-eqb (length bs) (byKind d 4 (4 + byteAt l 3) 11) long, t₄, t₅, t₆)
+    passed-line k n f cs (rowOf bs)
+    (record {
+      well = written-well 136 bs some (omega arith);
+      kind = rw (is, ne-eqb d 0 z, eq-eqb (byteAt l 0) d kind);
+      long = rw (is, half, eq-eqb (length bs) (byKind d 4 (4 + byteAt l 3) 11) long);
+      fields = rw is good;
+      below = rw is t₅;
+      alone = rw is t₆;
+    })
 
 -- ---- the header
 
 module _ (n f : ℕ) (h : HeaderIn n f) where
-  abbrev headerValues : List ℕ
-  headerValues = 1 ∷ 1 ∷ n ∷ f ∷ []
-
   abbrev headerLine : List ℕ
   headerLine = hexes (headerBytes n f)
 
-  header-fits : Fit headerWidths headerValues
+  header-fits : Fit headerWidths (headerValues 1 n f)
   header-fits = omega arith
 
-  pub header-fields : byteAt headerLine 0 ∷ byteAt headerLine 1 ∷ byteAt headerLine 2 ∷ byteAt headerLine 3 ∷ [] ≡ headerValues
+  pub header-fields : byteAt headerLine 0 ∷ byteAt headerLine 1 ∷ byteAt headerLine 2 ∷ byteAt headerLine 3 ∷ [] ≡ headerValues 1 n f
   unfolding headerBytes fieldsAt
-  header-fields = simp (append-nil, number-one) at (fields-back [] headerWidths headerValues [] header-fits)
+  header-fields = simp (append-nil, number-one) at (fields-back [] headerWidths (headerValues 1 n f) [] header-fits)
 
-  pub header-taken : (k n₀ f₀ : ℕ) (cs : List Cluster) → due k n₀ f₀ ≡ 1 → headerOutside 1 n f ≡ false → refusal k n₀ f₀ cs (rowOf (headerBytes n f)) ≡ 0
-  unfolding outside misplaced repeated
+  pub header-taken : (k n₀ f₀ : ℕ) (cs : List Cluster) → due k n₀ f₀ ≡ 1 → headerVerdict k 1 n f ≡ Accepted → lineVerdict k n₀ f₀ cs (rowOf (headerBytes n f)) ≡ Accepted
+  unfolding fieldsVerdict misplaced repeated
   header-taken k n₀ f₀ cs d r =
       let e = header-fields in
       let size = header-size n f in
@@ -77,23 +84,24 @@ module _ (n f : ℕ) (h : HeaderIn n f) where
 -- ---- a cluster
 
 module _ (c : Cluster) (h : ClusterIn c) (byte : c .parent < 256) where
-  abbrev clusterValues : List ℕ
-  clusterValues = 2 ∷ c .parent ∷ c .order ∷ c .tag .len ∷ []
+  -- what stands before the tag
+  abbrev untagged : List ℕ
+  untagged = 2 ∷ c .parent ∷ c .order ∷ c .tag .len ∷ []
 
   abbrev clusterLine : List ℕ
   clusterLine = hexes (clusterBytes c)
 
-  cluster-fits : Fit clusterWidths clusterValues
+  cluster-fits : Fit clusterWidths untagged
   cluster-fits = omega arith
 
-  cluster-fields : byteAt clusterLine 0 ∷ byteAt clusterLine 1 ∷ byteAt clusterLine 2 ∷ byteAt clusterLine 3 ∷ [] ≡ clusterValues
+  cluster-fields : byteAt clusterLine 0 ∷ byteAt clusterLine 1 ∷ byteAt clusterLine 2 ∷ byteAt clusterLine 3 ∷ [] ≡ untagged
   unfolding clusterBytes fieldsAt
-  cluster-fields = simp number-one at (fields-back [] clusterWidths clusterValues (take (c .tag .len) (c .tag .bytes)) cluster-fits)
+  cluster-fields = simp number-one at (fields-back [] clusterWidths untagged (take (c .tag .len) (c .tag .bytes)) cluster-fits)
 
   tag-byte : (i : ℕ) → i < c .tag .len → byteAt clusterLine (4 + i) ≡ getD (c .tag .bytes) i 0
   unfolding clusterBytes total
   tag-byte i l =
-      tail-back clusterWidths clusterValues (take (c .tag .len) (c .tag .bytes)) cluster-fits i
+      tail-back clusterWidths untagged (take (c .tag .len) (c .tag .bytes)) cluster-fits i
       ∙ rw (getD-take (c .tag .len) (c .tag .bytes) i 0 l) (omega (arith, h .printable i l))
 
   -- the tag up to its length, zeros behind
@@ -105,31 +113,28 @@ module _ (c : Cluster) (h : ClusterIn c) (byte : c .parent < 256) where
       rw (e₁, e₂, e₃, filled-same _ _ (replicate 64 0) (c .tag .len) tag-byte)
 
   pub cluster-taken : (k n f : ℕ) (cs : List Cluster) → due k n f ≡ 2
-      → clusterOutside c ≡ false → wrongParent (k - 2) (c .parent) ≡ false → tagTaken cs (k - 2) (keptTag (c .tag)) ≡ false
-      → refusal k n f cs (rowOf (clusterBytes c)) ≡ 0
-  unfolding outside misplaced repeated keptCluster
-  cluster-taken k n f cs d t₄ t₅ t₆ =
+      → clusterVerdict k c ≡ Accepted → wrongParent (k - 2) (c .parent) ≡ false → tagTaken cs (k - 2) (keptTag (c .tag)) ≡ false
+      → lineVerdict k n f cs (rowOf (clusterBytes c)) ≡ Accepted
+  unfolding fieldsVerdict misplaced repeated keptCluster
+  cluster-taken k n f cs d good t₅ t₆ =
       let e = cluster-fields in
       let e₀ : byteAt clusterLine 0 ≡ 2 = cc in let e₃ : byteAt clusterLine 3 ≡ c .tag .len = cc in
       let size : length (clusterBytes c) ≡ 4 + c .tag .len = cluster-size c ∙ omega (arith, length-take-le (c .tag .len) (c .tag .bytes) (h .whole)) in
       line-taken 2 k n f cs (clusterBytes c) d (λ z. omega arith) e₀ (omega arith) (omega arith) (rw e₃ size)
-      (rw cluster-back (kept-outside c (h .short) ∙ t₄)) (rw cluster-back t₅) (rw cluster-back t₆)
+      (rw cluster-back (kept-verdict k c (h .short) ∙ good)) (rw cluster-back t₅) (rw cluster-back t₆)
 
 -- ---- a flow
 
 module _ (n : ℕ) (f : Flow) (h : FlowIn n f) (few : n ≤ 64) where
-  abbrev flowValues : List ℕ
-  flowValues = 3 ∷ f .source ∷ f .sink ∷ f .period ∷ f .deadline ∷ []
-
   abbrev flowLine : List ℕ
   flowLine = hexes (flowBytes f)
 
-  flow-fits : Fit flowWidths flowValues
+  flow-fits : Fit flowWidths (flowValues f)
   flow-fits = omega arith
 
-  flow-fields : byteAt flowLine 0 ∷ byteAt flowLine 1 ∷ byteAt flowLine 2 ∷ numberAt flowLine 3 4 ∷ numberAt flowLine 7 4 ∷ [] ≡ flowValues
+  flow-fields : byteAt flowLine 0 ∷ byteAt flowLine 1 ∷ byteAt flowLine 2 ∷ numberAt flowLine 3 4 ∷ numberAt flowLine 7 4 ∷ [] ≡ flowValues f
   unfolding flowBytes fieldsAt
-  flow-fields = simp (append-nil, number-one) at (fields-back [] flowWidths flowValues [] flow-fits)
+  flow-fields = simp (append-nil, number-one) at (fields-back [] flowWidths (flowValues f) [] flow-fits)
 
   pub flow-back : flowOf flowLine ≡ f
   unfolding flowOf
@@ -139,10 +144,10 @@ module _ (n : ℕ) (f : Flow) (h : FlowIn n f) (few : n ≤ 64) where
       let e₃ : numberAt flowLine 3 4 ≡ f .period = cc in let e₄ : numberAt flowLine 7 4 ≡ f .deadline = cc in
       rw (e₁, e₂, e₃, e₄)
 
-  pub flow-taken : (k w : ℕ) (cs : List Cluster) → due k n w ≡ 3 → flowOutside n f ≡ false → refusal k n w cs (rowOf (flowBytes f)) ≡ 0
-  unfolding outside misplaced repeated
-  flow-taken k w cs d t₄ =
+  pub flow-taken : (k w : ℕ) (cs : List Cluster) → due k n w ≡ 3 → flowVerdict k n f ≡ Accepted → lineVerdict k n w cs (rowOf (flowBytes f)) ≡ Accepted
+  unfolding fieldsVerdict misplaced repeated
+  flow-taken k w cs d good =
       let e = flow-fields in
       let e₀ : byteAt flowLine 0 ≡ 3 = cc in
       let size = flow-size f in
-      line-taken 3 k n w cs (flowBytes f) d (λ z. omega arith) e₀ (omega arith) (omega arith) size (rw flow-back t₄) refl refl
+      line-taken 3 k n w cs (flowBytes f) d (λ z. omega arith) e₀ (omega arith) (omega arith) size (rw flow-back good) refl refl

@@ -19,12 +19,12 @@ use Rattle.site.specs.declared.Site.{Site}
 use Rattle.site.specs.declared.Verdict.the-variants.{Accepted}
 use Rattle.site.specs.Records.{absent, noFlow, noSite}
 use Rattle.site.specs.Table.{due}
-use Rattle.reader.specs.Reading.{withHeader, refusalAt, entered, accepted, readRows, readText}
+use Rattle.reader.specs.Reading.{withHeader, verdictAt, entered, accepted, readRows, readText}
 use Rattle.reader.specs.ReadLaws.{rows-taken}
 use Rattle.records.specs.Check.{checked}
 use Rattle.writer.specs.Text.{headerBytes, clusterBytes, flowBytes, textOf}
 use Rattle.roundtrip.specs.Due.{cluster-due, flow-due, none-due}
-use Rattle.records.specs.Checked.{Unrefused, checked-unrefused, parent-byte, counts-in, cluster-tests, site-cluster-in, flow-test, site-flow-in}
+use Rattle.records.specs.Checked.{Unrefused, checked-unrefused, parent-byte, counts-in, cluster-tests, site-cluster-in, site-flow-in}
 use Rattle.records.specs.Checked.{clusters-reach, flows-reach}
 use Rattle.roundtrip.specs.Kept.{keptFirst, kept, cluster-kept, flow-kept, kept-taken}
 use Rattle.roundtrip.specs.LinesBack.{rowOf, header-fields, header-taken, cluster-back, cluster-taken, flow-back, flow-taken}
@@ -40,7 +40,7 @@ module _ {A : Type 0} (bytes : A → List ℕ) (xs : List A) (i n : ℕ) where
   lines-none l h = rw (drop-of-length-le (take n xs) {i = i} (omega (arith, length-take-le n xs h)))
 
 -- the reader takes a line that was written
-line-read : (k : ℕ) (s s′ : Site) (bs rest : List ℕ) → refusalAt k s (rowOf bs) ≡ 0 → entered k s (hexes bs) ≡ s′
+line-read : (k : ℕ) (s s′ : Site) (bs rest : List ℕ) → verdictAt k s (rowOf bs) ≡ Accepted → entered k s (hexes bs) ≡ s′
     → readRows k s (rows (lineOf bs ++ rest)) ≡ readRows (k + 1) s′ (rows rest)
 line-read k s s′ bs rest z e = rw (rows-line bs rest, rows-taken k s (rowOf bs) (rows rest) z, e)
 
@@ -96,7 +96,7 @@ module _ (s : Site) (sound : Unrefused s) where
         let next : 2 + n + j + 1 ≡ 2 + n + (j + 1) = omega arith in
         rw (← next)
         (line-read (2 + n + j) (keptFirst s n j) (keptFirst s n (j + 1)) (flowBytes w) rest
-        (flow-taken n w h few (2 + n + j) f (keptFirst s n j .clusters) due-here (flow-test s sound j l))
+        (flow-taken n w h few (2 + n + j) f (keptFirst s n j .clusters) due-here (sound .flows j l))
         (rw (due-here, here, flow-back n w h few) (flow-kept s n j)))
 
   -- m clusters from i on, then the rest

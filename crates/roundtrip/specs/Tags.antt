@@ -16,9 +16,10 @@ use Rattle.hexline.specs.Digits.{isDigit, digit, allDigits, byteAt}
 use Rattle.hexline.specs.Lines.{rows, malformed}
 use Rattle.site.specs.declared.Tag.{Tag}
 use Rattle.site.specs.declared.Verdict.the-variants.{Accepted, Refused}
-use Rattle.site.specs.Records.{noSite, sameTag, printableTag, headerOutside, clusterOutside, wrongParent, tagTaken}
+use Rattle.site.specs.Records.{noSite, sameTag, wrongParent, tagTaken}
+use Rattle.site.specs.Fields.{firstBad, headerVerdict, clusterVerdict}
 use Rattle.site.specs.Lines.{size, tagAt, clusterOf}
-use Rattle.site.specs.Table.{due, wrongKind, wrongLength, outside, misplaced, repeated, refusal}
+use Rattle.site.specs.Table.{due, wrongKind, wrongLength, fieldsVerdict, misplaced, repeated, lineVerdict}
 use Rattle.reader.specs.Reading.{withHeader, withCluster, entered, readRows, readText}
 
 both-hold : (p q : Bool) → p && q ≡ true → (p ≡ true) × (q ≡ true)
@@ -58,7 +59,7 @@ pump-hall-tags = (refl, refl)
 -- a site of the two is accepted; with the first tag twice it is refused by 6 at line 3
 pub pump-hall-site :
     (readText (ascii "01010200\n02FF001150554D5048414C4C2D4E4F5254482D3141\n0200001150554D5048414C4C2D4E4F5254482D3142\n") .verdict ≡ Accepted)
-    × (readText (ascii "01010200\n02FF001150554D5048414C4C2D4E4F5254482D3141\n0200001150554D5048414C4C2D4E4F5254482D3141\n") .verdict ≡ Refused 6 3)
-unfolding ascii rows malformed allDigits isDigit digit byteAt every filled noSite sameTag printableTag headerOutside clusterOutside wrongParent tagTaken
-    size tagAt clusterOf due wrongKind wrongLength outside misplaced repeated refusal withHeader withCluster entered readRows readText
+    × (readText (ascii "01010200\n02FF001150554D5048414C4C2D4E4F5254482D3141\n0200001150554D5048414C4C2D4E4F5254482D3141\n") .verdict ≡ Refused 6 3 255)
+unfolding ascii rows malformed allDigits isDigit digit byteAt every filled noSite sameTag firstBad headerVerdict clusterVerdict wrongParent tagTaken
+    size tagAt clusterOf due wrongKind wrongLength fieldsVerdict misplaced repeated lineVerdict withHeader withCluster entered readRows readText
 pump-hall-site = (refl, refl)

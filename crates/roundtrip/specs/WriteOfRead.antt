@@ -20,13 +20,15 @@ use Rattle.site.specs.declared.Tag.{Tag}
 use Rattle.site.specs.declared.Cluster.{Cluster}
 use Rattle.site.specs.declared.Flow.{Flow}
 use Rattle.site.specs.declared.Site.{Site}
+use Rattle.site.specs.declared.Verdict.{Verdict}
 use Rattle.site.specs.declared.Verdict.the-variants.{Accepted, Refused}
-use Rattle.site.specs.Records.{absent, noFlow, noSite, sameTag, headerOutside, wrongParent, tagTaken}
+use Rattle.site.specs.Records.{absent, noFlow, noSite, sameTag, wrongParent, tagTaken}
+use Rattle.site.specs.Fields.{headerVerdict}
 use Rattle.site.specs.Lines.{tagAt, clusterOf, flowOf}
 use Rattle.site.specs.Table.{due}
 use Rattle.reader.specs.declared.Reading.{Reading}
-use Rattle.reader.specs.Reading.{withHeader, withCluster, withFlow, refusalAt, entered, accepted, readRows, readText}
-use Rattle.records.specs.Check.{clusterRefusal, flowRefusal, checked}
+use Rattle.reader.specs.Reading.{withHeader, withCluster, withFlow, verdictAt, entered, accepted, onward, readRows, readText}
+use Rattle.records.specs.Check.{clusterChecked, flowChecked, checked}
 use Rattle.writer.specs.Text.{headerBytes, clusterBytes, flowBytes, textOf}
 use Rattle.roundtrip.specs.Due.{cluster-due, flow-due, none-due}
 use Rattle.records.specs.Checked.{unrefused-checked, header-in, cluster-in}
@@ -35,22 +37,24 @@ use Rattle.roundtrip.specs.LinesAgain.{taken-is-due, taken-length, taken
 
 -- ---- the reader of an accepted text
 
+onward-accepted : (v : Verdict) (next : Reading) (done : Site) → onward v next ≡ accepted done → (v ≡ Accepted) × (next ≡ accepted done)
+onward-accepted Accepted next done e = (refl, e)
+onward-accepted (Refused m k p) next done e =
+    absurd (let z : Refused m k p ≡ Accepted = ap (λ (x : Reading). x .verdict) e in let z′ : _≡_ {A = ℕ} 0 1 = cc in omega arith)
+
 module _ (k : ℕ) (s done : Site) where
   -- a line of it is taken
   goes-on : (r : Row) (rs : List Row) → readRows k s (r ∷ rs) ≡ accepted done
-      → (refusalAt k s r ≡ 0) × (readRows (k + 1) (entered k s (r .chars)) rs ≡ accepted done)
+      → (verdictAt k s r ≡ Accepted) × (readRows (k + 1) (entered k s (r .chars)) rs ≡ accepted done)
   unfolding readRows
-  goes-on r rs e = elim (decide (eqb (refusalAt k s r) 0)) [
-    | inl q ↦ (eqb-true _ _ q, rw q at e)
-    | inr q ↦ let z : Refused (refusalAt k s r) k ≡ Accepted = ap (λ (x : Reading). x .verdict) (rw q at e) in absurd (let z′ : _≡_ {A = ℕ} 0 1 = cc in omega arith)
-  ]
+  goes-on r rs e = onward-accepted (verdictAt k s r) (readRows (k + 1) (entered k s (r .chars)) rs) done e
 
   -- at its end no line is due
   ends : readRows k s [] ≡ accepted done → (due k (s .«cluster_count») (s .«flow_count») ≡ 0) × (s ≡ done)
   unfolding readRows
   ends e = elim (decide (eqb (due k (s .«cluster_count») (s .«flow_count»)) 0)) [
     | inl q ↦ (eqb-true _ _ q, ap (λ (x : Reading). x .site) (rw q at e))
-    | inr q ↦ let z : Refused 2 k ≡ Accepted = ap (λ (x : Reading). x .verdict) (rw q at e) in absurd (let z′ : _≡_ {A = ℕ} 0 1 = cc in omega arith)
+    | inr q ↦ let z : Refused 2 k 255 ≡ Accepted = ap (λ (x : Reading). x .verdict) (rw q at e) in absurd (let z′ : _≡_ {A = ℕ} 0 1 = cc in omega arith)
   ]
 
 -- the records with that of a line that is taken
@@ -72,11 +76,11 @@ textFirst s i j =
 
 -- i clusters and j flows of a text t were read, and the rows rs are left
 record SoFar (t : List ℕ) (i j : ℕ) (s : Site) (rs : List Row) : Type 0 where
-  header : headerOutside 1 (s .«cluster_count») (s .«flow_count») ≡ false
+  header : headerVerdict 1 1 (s .«cluster_count») (s .«flow_count») ≡ Accepted
   clusterRoom : length (s .clusters) ≡ 64
   flowRoom : length (s .flows) ≡ 128
-  clusters : (x : ℕ) → x < i → clusterRefusal (s .clusters) x ≡ 0
-  flows : (x : ℕ) → x < j → flowRefusal (s .«cluster_count») (getD (s .flows) x noFlow) ≡ 0
+  clusters : (x : ℕ) → x < i → clusterChecked (s .clusters) x ≡ Accepted
+  flows : (x : ℕ) → x < j → flowChecked (s .«cluster_count») (s .flows) x ≡ Accepted
   text : textFirst s i j ++ joined rs ≡ t
 
 -- one entry more, stored behind those before it
@@ -107,9 +111,9 @@ taken-looks-before : (cs ds : List Cluster) (i : ℕ) (t : Tag) → ((x : ℕ) �
 unfolding tagTaken
 taken-looks-before cs ds i t h = ap not (every-same _ _ i (λ x l. ap (λ (c : Cluster). not (sameTag (c .tag) t)) (h x l)))
 
-refusal-looks-up-to : (cs ds : List Cluster) (i : ℕ) → ((x : ℕ) → x ≤ i → getD ds x absent ≡ getD cs x absent) → clusterRefusal ds i ≡ clusterRefusal cs i
-unfolding clusterRefusal
-refusal-looks-up-to cs ds i h = rw (taken-looks-before cs ds i (getD ds i absent .tag) (λ x l. h x (omega arith)), h i (omega arith))
+check-looks-up-to : (cs ds : List Cluster) (i : ℕ) → ((x : ℕ) → x ≤ i → getD ds x absent ≡ getD cs x absent) → clusterChecked ds i ≡ clusterChecked cs i
+unfolding clusterChecked
+check-looks-up-to cs ds i h = rw (taken-looks-before cs ds i (getD ds i absent .tag) (λ x l. h x (omega arith)), h i (omega arith))
 
 -- what holds below i and at i holds below i + 1
 below-next : (P : ℕ → Type 0) (i : ℕ) → ((x : ℕ) → x < i → P x) → P i → (x : ℕ) → x < i + 1 → P x
@@ -128,15 +132,15 @@ module _ (t : List ℕ) (s : Site) (r : Row) (rs : List Row) where
   abbrev l : List ℕ
   l = r .chars
 
-  cluster-more : (i : ℕ) → i < n → due (2 + i) n f ≡ 2 → refusalAt (2 + i) s r ≡ 0 → SoFar t i 0 s (r ∷ rs) → SoFar t (i + 1) 0 (withCluster s i (clusterOf l)) rs
-  unfolding withCluster clusterRefusal clusterOf tagAt
+  cluster-more : (i : ℕ) → i < n → due (2 + i) n f ≡ 2 → verdictAt (2 + i) s r ≡ Accepted → SoFar t i 0 s (r ∷ rs) → SoFar t (i + 1) 0 (withCluster s i (clusterOf l)) rs
+  unfolding withCluster clusterChecked clusterOf tagAt
   cluster-more i within is z so =
       let c : Cluster = clusterOf l in
       let cs : List Cluster = s .clusters in
-      let room : i < length cs = omega (arith, so .clusterRoom, header-in 1 n f (so .header) .1 .clusters) in
+      let room : i < length cs = omega (arith, so .clusterRoom, header-in 1 1 n f (so .header) .1 .clusters) in
       let here : 2 + i - 2 ≡ i = omega arith in
       let tests = taken-cluster (2 + i) n f cs r z is in
-      let short : byteAt l 3 ≤ 64 = cluster-in c (tests .1) .short in
+      let short : byteAt l 3 ≤ 64 = cluster-in (2 + i) c (tests .1) .short in
       let same : (x : ℕ) → x < i → getD (set cs i c) x absent ≡ getD cs x absent = λ x p. getD-set-other cs i x c absent (λ e. omega arith) in
       let parent : wrongParent i (c .parent) ≡ false = rw here at (tests .2) in
       let free : tagTaken (set cs i c) i (c .tag) ≡ false = taken-looks-before cs (set cs i c) i (c .tag) same ∙ rw here at (tests .3) in
@@ -144,8 +148,8 @@ module _ (t : List ℕ) (s : Site) (r : Row) (rs : List Row) where
         header = so .header;
         clusterRoom = length-set cs i c ∙ so .clusterRoom;
         flowRoom = so .flowRoom;
-        clusters = below-next (λ x. clusterRefusal (set cs i c) x ≡ 0) i
-            (λ x p. refusal-looks-up-to cs (set cs i c) x (λ y q. same y (omega arith)) ∙ so .clusters x p)
+        clusters = below-next (λ x. clusterChecked (set cs i c) x ≡ Accepted) i
+            (λ x p. check-looks-up-to cs (set cs i c) x (λ y q. same y (omega arith)) ∙ so .clusters x p)
             (rw (getD-set-same cs i c absent room, tests .1, parent, free));
         flows = so .flows;
         text = text-more (textFirst s i 0) (textFirst (withCluster s i c) (i + 1) 0) (lineOf (clusterBytes c)) t r rs (cluster-text s i c room)
@@ -153,19 +157,19 @@ module _ (t : List ℕ) (s : Site) (r : Row) (rs : List Row) where
             (so .text);
       }
 
-  flow-more : (j : ℕ) → j < f → due (2 + n + j) n f ≡ 3 → refusalAt (2 + n + j) s r ≡ 0 → SoFar t n j s (r ∷ rs) → SoFar t n (j + 1) (withFlow s j (flowOf l)) rs
-  unfolding withFlow flowRefusal
+  flow-more : (j : ℕ) → j < f → due (2 + n + j) n f ≡ 3 → verdictAt (2 + n + j) s r ≡ Accepted → SoFar t n j s (r ∷ rs) → SoFar t n (j + 1) (withFlow s j (flowOf l)) rs
+  unfolding withFlow
   flow-more j within is z so =
       let w : Flow = flowOf l in
       let fs : List Flow = s .flows in
-      let room : j < length fs = omega (arith, so .flowRoom, header-in 1 n f (so .header) .1 .flows) in
+      let room : j < length fs = omega (arith, so .flowRoom, header-in 1 1 n f (so .header) .1 .flows) in
       let tests = taken-flow (2 + n + j) n f (s .clusters) r z is in
       record {
         header = so .header;
         clusterRoom = so .clusterRoom;
         flowRoom = length-set fs j w ∙ so .flowRoom;
         clusters = so .clusters;
-        flows = below-next (λ x. flowRefusal n (getD (set fs j w) x noFlow) ≡ 0) j
+        flows = below-next (λ x. flowChecked n (set fs j w) x ≡ Accepted) j
             (λ x p. rw (getD-set-other fs j x w noFlow (λ e. omega arith)) (so .flows x p))
             (rw (getD-set-same fs j w noFlow room, tests .1));
         text = text-more (textFirst s n j) (textFirst (withFlow s j w) n (j + 1)) (lineOf (flowBytes w)) t r rs (flow-text s n j w room)
@@ -251,7 +255,7 @@ text-again (r ∷ rs) t done p e =
     let on = goes-on 1 noSite done r rs e in
     let head : List ℕ = headerBytes (byteAt l 2) (byteAt l 3) in
     let tests = taken-header 1 0 0 (noSite .clusters) r (on .0) refl in
-    let h = header-in (byteAt l 1) (byteAt l 2) (byteAt l 3) (tests .1) in
+    let h = header-in 1 (byteAt l 1) (byteAt l 2) (byteAt l 3) (tests .1) in
     clusters-again rs t 0 (withHeader noSite (byteAt l 2) (byteAt l 3)) done (omega arith)
     (record {
       header = rw (h .0) at (tests .1);

@@ -1,7 +1,5 @@
--- What the line reader's answer says, in the terms of docs/FORMATS.md, "Refusal numbers" and "Site text": the lowest number of the tests that hold with the line's
--- number, or the values of the fields at their places in the line.
-use mathlib.Core.Path.{_≡_}
-use mathlib.Core.Bool.{cond}
+-- What the line reader's answer says, in the terms of docs/FORMATS.md, "Refusal numbers" and "Site text": the first verdict of the line that refuses, or the values of the fields at their places in the line.
+use mathlib.Core.Path.{_≡_, refl}
 use mathlib.Core.List.{List, [], _∷_}
 use mathlib.Core.Logic.{inl, inr}
 use Prim.Native.Nat.{ℕ}
@@ -9,9 +7,11 @@ use lib.Dec.{eqb}
 use Rattle.hexline.specs.Digits.{byteAt, numberAt}
 use Rattle.hexline.specs.Lines.{Row}
 use Rattle.hexline.specs.Loops.{decide}
-use Rattle.site.specs.Answers.{gives, refuses, entrySays}
+use Rattle.site.specs.declared.Verdict.{Verdict}
+use Rattle.site.specs.declared.Verdict.the-variants.{Accepted, Refused}
+use Rattle.site.specs.Answers.{gives, entrySays, verdictSays, orNext}
 use Rattle.site.specs.Lines.{flowOf}
-use Rattle.site.specs.Table.{lowest, due, byKind, lineTests, recordOf, entryOf}
+use Rattle.site.specs.Table.{firstOf, due, byKind, lineVerdicts, recordOf, answered, entryOf}
 
 -- the fields of a line of kind d behind its first byte, but for a header's version; a tag as the byte at which it begins and its length
 abbrev pub fieldsIn : ℕ → List ℕ → List ℕ
@@ -28,10 +28,10 @@ record-says d l = elim (decide (eqb d 1)) [
   | inr e ↦ elim (decide (eqb d 2)) [ inl f ↦ rw (e, f) | inr f ↦ rw (e, f) ]
 ]
 
-pub line-answer : (k n f : ℕ) (r : Row) → let number : ℕ = lowest 1 (lineTests k n f r) in
-    entrySays (entryOf k n f r) ≡ cond (eqb number 0) (gives (fieldsIn (due k n f) (r .chars))) (refuses number k)
+said : (v : Verdict) (d : ℕ) (l : List ℕ) → entrySays (answered v (recordOf d l)) ≡ orNext (verdictSays v) (gives (fieldsIn d l))
+said Accepted d l = record-says d l
+said (Refused m k p) d l = refl
+
+pub line-answer : (k n f : ℕ) (r : Row) → entrySays (entryOf k n f r) ≡ orNext (verdictSays (firstOf (lineVerdicts k n f r))) (gives (fieldsIn (due k n f) (r .chars)))
 unfolding entryOf
-line-answer k n f r = elim (decide (eqb (lowest 1 (lineTests k n f r)) 0)) [
-  | inl e ↦ rw e (record-says (due k n f) (r .chars))
-  | inr e ↦ rw e
-]
+line-answer k n f r = said (firstOf (lineVerdicts k n f r)) (due k n f) (r .chars)

@@ -1,13 +1,10 @@
--- The records of a site and the tests that a text's and a caller's records share (docs/FORMATS.md, "Site text", "Refusal numbers" 4, 5 and 6).
+-- The records of a site and the tests that a text's and a caller's records share (docs/FORMATS.md, "Site text", "Refusal numbers" 5 and 6).
 use mathlib.Core.Bool.{Bool, cond, not, _&&_}
-use mathlib.Core.List.{List, [], _∷_}
+use mathlib.Core.List.{List, []}
 use Prim.Native.Nat.{ℕ}
 use lib.ListN.{getD, replicate}
-use lib.Dec.{leb, ltb, eqb}
-use Rattle.model.specs.Orders.{largest}
+use lib.Dec.{leb, eqb}
 use Rattle.hexline.specs.Loops.{every}
-use Rattle.hexline.specs.Digits.{between}
-use Rattle.hexline.specs.Lines.{anyOf}
 use Rattle.site.specs.declared.Tag.{Tag}
 use Rattle.site.specs.declared.Cluster.{Cluster}
 use Rattle.site.specs.declared.Flow.{Flow}
@@ -33,22 +30,6 @@ absent = record { parent = 0; order = 0; tag = record { bytes = []; len = 0 } }
 -- two tags are the same exactly if their lengths are equal and so is every byte up to that length
 unfoldable pub sameTag : Tag → Tag → Bool
 sameTag a b = eqb (a .len) (b .len) && every (a .len) (λ i. eqb (getD (a .bytes) i 0) (getD (b .bytes) i 0))
-
--- each byte of a tag is 21 to 7E in hexadecimal
-unfoldable pub printableTag : Tag → Bool
-printableTag t = every (t .len) (λ i. between 33 126 (getD (t .bytes) i 0))
-
--- 4: the version is not 01, the clusters are not 1 to 64, or the flows not 0 to 128
-unfoldable pub headerOutside : ℕ → ℕ → ℕ → Bool
-headerOutside v n f = anyOf (not (eqb v 1) ∷ not (between 1 64 n) ∷ ltb 128 f ∷ [])
-
--- 4: the order is not 0 to 14, the tag length not 1 to 64, or a tag byte not 21 to 7E
-unfoldable pub clusterOutside : Cluster → Bool
-clusterOutside c = anyOf (ltb largest (c .order) ∷ not (between 1 64 (c .tag .len)) ∷ not (printableTag (c .tag)) ∷ [])
-
--- 4: of n clusters the source or the sink is none, or the period or the deadline is not 1 to 1,000,000,000
-unfoldable pub flowOutside : ℕ → Flow → Bool
-flowOutside n f = anyOf (leb n (f .source) ∷ leb n (f .sink) ∷ not (between 1 1000000000 (f .period)) ∷ not (between 1 1000000000 (f .deadline)) ∷ [])
 
 -- 5: the root's parent is not FF, or another cluster's parent is not lower than its own number
 unfoldable pub wrongParent : ℕ → ℕ → Bool

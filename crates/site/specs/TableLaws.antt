@@ -1,28 +1,21 @@
 -- Laws of the table: which kind is due, what it means that no test holds, and the line reader's answer test by test.
 use mathlib.Core.Path.{_≡_, refl, sym, _∙_}
-use mathlib.Core.Bool.{Bool, true, false}
+use mathlib.Core.Bool.{Bool, true, false, _||_}
 use mathlib.Core.List.{List, [], _∷_, _++_}
-use mathlib.Core.Logic.{inl, inr}
-use Prim.Native.Nat.{ℕ, suc, _+_, _-_, _≤_, _<_}
+use mathlib.Core.Logic.{_⊎_, inl, inr}
+use Prim.Native.Nat.{ℕ, _+_, _≤_, _<_}
 use native.Mathlib.Omega.{arith}
 use lib.Dec.{leb}
 use borrow.Author.Tests.{leb-true, leb-false, eq-eqb, ne-eqb}
 use Rattle.hexline.specs.Loops.{decide}
-use Rattle.hexline.specs.Digits.{byteAt}
+use Rattle.hexline.specs.Digits.{between, byteAt}
+use Rattle.hexline.specs.DigitLaws.{between-true}
 use Rattle.hexline.specs.Lines.{Row, malformed}
-use Rattle.hexline.specs.LineLaws.{AllFalse}
+use Rattle.site.specs.declared.Cluster.{Cluster}
 use Rattle.site.specs.declared.Entry.the-variants.{Refused as RefusedLine}
-use Rattle.site.specs.Table.{lowest, due, wrongKind, outside, entryOf, fieldsOf}
-
-pub lowest-none : (m : ℕ) (ts : List Bool) → lowest (suc m) ts ≡ 0 → AllFalse ts
-lowest-none m [] e = tt
-lowest-none m (true ∷ ts) e = absurd (omega arith)
-lowest-none m (false ∷ ts) e = (refl, lowest-none (suc m) ts e)
-
-pub lowest-kept : (m : ℕ) (ts us : List Bool) → (lowest (suc m) ts ≡ 0 → ⊥) → lowest (suc m) (ts ++ us) ≡ lowest (suc m) ts
-lowest-kept m [] us h = absurd (h refl)
-lowest-kept m (true ∷ ts) us h = refl
-lowest-kept m (false ∷ ts) us h = lowest-kept (suc m) ts us h
+use Rattle.site.specs.declared.Verdict.{Verdict}
+use Rattle.site.specs.declared.Verdict.the-variants.{Accepted, Refused}
+use Rattle.site.specs.Table.{refusedIf, firstOf, due, wrongKind, wrongLength, fieldsVerdict, misplaced, repeated, lineVerdicts, entryOf, fieldsOf, lineVerdict, recordNumber, ownNumber}
 
 -- line k by its place: the header, a cluster, a flow, or none due
 pub data Place (k n f : ℕ) : Type 0 where
@@ -58,16 +51,16 @@ module _ (k n f : ℕ) where
 
 -- the line reader's answer, test by test
 module _ (k n f : ℕ) (r : Row) where
-  pub entry-malformed : malformed 136 r ≡ true → entryOf k n f r ≡ RefusedLine 1 k
+  pub entry-malformed : malformed 136 r ≡ true → entryOf k n f r ≡ RefusedLine 1 k 255
   unfolding entryOf
   entry-malformed e = rw e
 
   module _ (well : malformed 136 r ≡ false) where
-    pub entry-none-due : due k n f ≡ 0 → entryOf k n f r ≡ RefusedLine 2 k
+    pub entry-none-due : due k n f ≡ 0 → entryOf k n f r ≡ RefusedLine 2 k 255
     unfolding entryOf wrongKind
     entry-none-due d = simp (well, d)
 
-    pub entry-other-kind : (due k n f ≡ 0 → ⊥) → (byteAt (r .chars) 0 ≡ due k n f → ⊥) → entryOf k n f r ≡ RefusedLine 2 k
+    pub entry-other-kind : (due k n f ≡ 0 → ⊥) → (byteAt (r .chars) 0 ≡ due k n f → ⊥) → entryOf k n f r ≡ RefusedLine 2 k 255
     unfolding entryOf wrongKind
     entry-other-kind d h = simp (well, ne-eqb _ _ d, ne-eqb _ _ h)
 
@@ -77,9 +70,63 @@ module _ (k n f : ℕ) (r : Row) where
 
 -- only a flow's fields depend on the number of clusters
 pub header-alone : (k n : ℕ) (l : List ℕ) → fieldsOf 1 k n l ≡ fieldsOf 1 k 0 l
-unfolding fieldsOf outside
+unfolding fieldsOf fieldsVerdict
 header-alone k n l = refl
 
 pub cluster-alone : (k n : ℕ) (l : List ℕ) → fieldsOf 2 k n l ≡ fieldsOf 2 k 0 l
-unfolding fieldsOf outside
+unfolding fieldsOf fieldsVerdict
 cluster-alone k n l = refl
+
+-- what a line that is taken says of itself, verdict by verdict
+pub record Passed (k n f : ℕ) (cs : List Cluster) (r : Row) : Type 0 where
+  pub well : malformed 136 r ≡ false
+  pub kind : wrongKind (due k n f) (r .chars) ≡ false
+  pub long : wrongLength (due k n f) (r .chars) ≡ false
+  pub fields : fieldsVerdict (due k n f) k n (r .chars) ≡ Accepted
+  pub below : misplaced (due k n f) k (r .chars) ≡ false
+  pub alone : repeated (due k n f) k cs (r .chars) ≡ false
+
+abbrev AllAccept : List Verdict → Type 0
+AllAccept [] = Unit {0}
+AllAccept (v ∷ vs) = (v ≡ Accepted) × AllAccept vs
+
+all-accept : (vs : List Verdict) → firstOf vs ≡ Accepted → AllAccept vs
+all-accept [] e = tt
+all-accept (Accepted ∷ vs) e = (refl, all-accept vs e)
+all-accept (Refused m k p ∷ vs) e = absurd (let z : _≡_ {A = ℕ} 0 1 = cc in omega arith)
+
+pub test-accepts : (m k : ℕ) (t : Bool) → refusedIf m k t ≡ Accepted → t ≡ false
+test-accepts m k true e = absurd (let z : _≡_ {A = ℕ} 0 1 = cc in omega arith)
+test-accepts m k false e = refl
+
+pub line-passed : (k n f : ℕ) (cs : List Cluster) (r : Row) → lineVerdict k n f cs r ≡ Accepted → Passed k n f cs r
+unfolding lineVerdict
+line-passed k n f cs r e =
+    let d : ℕ = due k n f in let l : List ℕ = r .chars in
+    let all = all-accept (lineVerdicts k n f r ++ (refusedIf 6 k (repeated d k cs l) ∷ [])) e in
+    record {
+      well = test-accepts 1 k (malformed 136 r) (all .0);
+      kind = test-accepts 2 k (wrongKind d l) (all .1 .0);
+      long = test-accepts 3 k (wrongLength d l) (all .1 .1 .0);
+      fields = all .1 .1 .1 .0;
+      below = test-accepts 5 k (misplaced d k l) (all .1 .1 .1 .1 .0);
+      alone = test-accepts 6 k (repeated d k cs l) (all .1 .1 .1 .1 .1 .0);
+    }
+
+pub passed-line : (k n f : ℕ) (cs : List Cluster) (r : Row) → Passed k n f cs r → lineVerdict k n f cs r ≡ Accepted
+unfolding lineVerdict
+passed-line k n f cs r h = rw (h .well, h .kind, h .long, h .fields, h .below, h .alone)
+
+-- the site's own numbers leave out 7, 8 and 9
+either-true : (a b : Bool) → a || b ≡ true → (a ≡ true) ⊎ (b ≡ true)
+either-true true b e = inl refl
+either-true false b e = inr e
+
+pub record-range : (m : ℕ) → recordNumber m ≡ true → ((5 ≤ m) × (m ≤ 6)) ⊎ ((10 ≤ m) × (m ≤ 14))
+record-range m e = elim (either-true (between 5 6 m) (between 10 14 m) e) [ inl h ↦ inl (between-true 5 6 m h) | inr h ↦ inr (between-true 10 14 m h) ]
+
+pub own-range : (m : ℕ) → ownNumber m ≡ true → ((1 ≤ m) × (m ≤ 6)) ⊎ ((10 ≤ m) × (m ≤ 14))
+own-range m e = elim (either-true (between 1 3 m) (recordNumber m) e) [
+  | inl h ↦ let low = between-true 1 3 m h in inl (low .0, omega arith)
+  | inr h ↦ elim (record-range m h) [ inl g ↦ inl (omega arith, g .1) | inr g ↦ inr g ]
+]

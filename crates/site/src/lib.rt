@@ -1,7 +1,12 @@
-// Sites (docs/FORMATS.md, "Site text", "Refusal numbers"): the records and the line reader.
+// Sites (docs/FORMATS.md, "Site text", "Refusal numbers"): the records, their fields and the line
+// reader.
+mod fields;
 mod line;
 
-pub use line::bad_parent;
+pub use fields::bad_parent;
+pub use fields::flow_verdict;
+pub use fields::header_verdict;
+pub use fields::untagged_verdict;
 pub use line::due_at;
 pub use line::line_entry;
 pub use line::read_line;
@@ -16,6 +21,9 @@ pub const MOST_TAG: u8 = 64;
 pub const MOST_TIME: u32 = 1000000000;
 
 pub const MOST_DIGITS: usize = 136;
+
+// The place in a refusal that names no field.
+pub const NO_PLACE: u16 = 255;
 
 // A tag, kept whole: its bytes and how many of them count.
 pub struct Tag {
@@ -49,8 +57,8 @@ pub struct Site {
     pub flow_count: u8,
 }
 
-// What a line is: one of three records, or its refusal with number and line. A tag is kept beside,
-// as the byte of the line at which it begins and its length.
+// What a line is: one of three records, or its refusal. A tag is kept beside, as the byte of the line
+// at which it begins and its length.
 pub enum Entry {
     Header {
         clusters: u8,
@@ -71,11 +79,15 @@ pub enum Entry {
     Refused {
         number: u8,
         line: usize,
+        place: u16,
     },
 }
 
-// What is said of a text or of records.
+// What is said of a text, of a record or of records. A refusal has its number, its line and the byte of
+// the record at which the field stands that is out of range, NO_PLACE where it names no field. A place
+// has two bytes and not one, so that no other part of an answer is stored as it is: the compiler then
+// keeps both in registers.
 pub enum Verdict {
     Accepted,
-    Refused { number: u8, line: usize },
+    Refused { number: u8, line: usize, place: u16 },
 }

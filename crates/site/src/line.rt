@@ -1,11 +1,13 @@
 // The line reader: what a line of a site's text is.
 use crate::Entry;
-use crate::MOST_CLUSTERS;
+use crate::Flow;
 use crate::MOST_DIGITS;
-use crate::MOST_FLOWS;
-use crate::MOST_TAG;
-use crate::MOST_TIME;
-use model::Order;
+use crate::NO_PLACE;
+use crate::Verdict;
+use crate::fields::bad_parent;
+use crate::fields::flow_verdict;
+use crate::fields::header_verdict;
+use crate::fields::untagged_verdict;
 use model::wide;
 ghost use mathlib.Core.Path.{_≡_};
 ghost use mathlib.Core.Bool.{false};
@@ -14,8 +16,7 @@ ghost use lib.ListN.{length, replicate};
 ghost use Rattle.hexbytes.specs.Decoded.{Decoded};
 ghost use Rattle.hexline.specs.Digits.{numberAt};
 ghost use Rattle.hexline.specs.Lines.{malformed};
-ghost use Rattle.site.specs.Lines.{printableLine};
-ghost use Rattle.site.specs.Records.{wrongParent};
+ghost use Rattle.site.specs.Lines.{printableLine, FirstUnprintable};
 ghost use Rattle.site.specs.Table.{due, fieldsOf, entryOf};
 
 // The kind due at line k after a header of so many clusters and flows: 1 header, 2 cluster, 3 flow,
@@ -46,10 +47,25 @@ fn printable_line(line: &[u8], bytes: &[u8; 68], len: u8) -> bool
     let mut i: usize = 0;
     while i < n {
         let b = hexbytes::byte_of(line, bytes, 4 + i);
-        all = all & ((33 <= b) & (b <= 126));
+        all = all & !((b < 33) | (b > 126));
         i += 1;
     }
     all
+}
+
+// Which of the tag bytes of a cluster line is the first that is not from 21 to 7E, counted from 0; one
+// of them is not. Only a line that is refused for it is walked so.
+fn first_unprintable(line: &[u8], bytes: &[u8; 68], len: u8) -> u16
+    requires { ⌜ (Decoded (now line) (now bytes)) × (len ≤ 64) × (8 + 2 * len ≤ length (now line)) × (printableLine (now line) len ≡ false) ⌝ }
+    ensures { λ r. ⌜ FirstUnprintable (now (line .entry)) len r ⌝ }
+{
+    let mut i: u8 = 0;
+    let mut b = hexbytes::byte_of(line, bytes, 4);
+    while !((b < 33) | (b > 126)) {
+        i += 1;
+        b = hexbytes::byte_of(line, bytes, 4 + wide(i));
+    }
+    i as u16
 }
 
 fn value_of(b: u8) -> u32
@@ -71,14 +87,14 @@ fn time_of(line: &[u8], bytes: &[u8; 68], k: usize) -> u32
         + value_of(hexbytes::byte_of(line, bytes, k + 3))
 }
 
-// Whether the parent of cluster i is wrong: the root's is 255, another's is a lower number.
-pub fn bad_parent(i: usize, parent: u8) -> bool
-    ensures { λ r. ⌜ r ≡ wrongParent i parent ⌝ }
+// A refusal of line k that names no field.
+fn refusal(number: u8, k: usize) -> Entry
+    ensures { λ r. ⌜ r ≡ Entry.Refused number k 255 ⌝ }
 {
-    if i == 0 {
-        parent != 255
-    } else {
-        i <= wide(parent)
+    Entry::Refused {
+        number,
+        line: k,
+        place: NO_PLACE,
     }
 }
 
@@ -87,21 +103,22 @@ fn header_line(line: &[u8], bytes: &[u8; 68], k: usize) -> Entry
     ensures { λ r. ⌜ r ≡ fieldsOf 1 k 0 (now (line .entry)) ⌝ }
 {
     if line.len() / 2 != 4 {
-        return Entry::Refused { number: 3, line: k };
+        return refusal(3, k);
     }
-    if hexbytes::byte_of(line, bytes, 1) != 1 {
-        return Entry::Refused { number: 4, line: k };
-    }
+    let version = hexbytes::byte_of(line, bytes, 1);
     let clusters = hexbytes::byte_of(line, bytes, 2);
-    if clusters < 1 {
-        return Entry::Refused { number: 4, line: k };
-    }
-    if clusters > MOST_CLUSTERS {
-        return Entry::Refused { number: 4, line: k };
-    }
     let flows = hexbytes::byte_of(line, bytes, 3);
-    if flows > MOST_FLOWS {
-        return Entry::Refused { number: 4, line: k };
+    let fields = header_verdict(k, version, clusters, flows);
+    if let Verdict::Refused {
+        number,
+        line,
+        place,
+    } = fields {
+        return Entry::Refused {
+            number,
+            line,
+            place,
+        };
     }
     Entry::Header { clusters, flows }
 }
@@ -111,28 +128,35 @@ fn cluster_line(line: &[u8], bytes: &[u8; 68], k: usize) -> Entry
     ensures { λ r. ⌜ r ≡ fieldsOf 2 k 0 (now (line .entry)) ⌝ }
 {
     if line.len() < 8 {
-        return Entry::Refused { number: 3, line: k };
+        return refusal(3, k);
     }
     let len = hexbytes::byte_of(line, bytes, 3);
     if line.len() / 2 != 4 + wide(len) {
-        return Entry::Refused { number: 3, line: k };
+        return refusal(3, k);
     }
     let order = hexbytes::byte_of(line, bytes, 2);
-    if order > Order::LARGEST {
-        return Entry::Refused { number: 4, line: k };
-    }
-    if len < 1 {
-        return Entry::Refused { number: 4, line: k };
-    }
-    if len > MOST_TAG {
-        return Entry::Refused { number: 4, line: k };
+    let fields = untagged_verdict(k, order, len);
+    if let Verdict::Refused {
+        number,
+        line,
+        place,
+    } = fields {
+        return Entry::Refused {
+            number,
+            line,
+            place,
+        };
     }
     if !printable_line(line, bytes, len) {
-        return Entry::Refused { number: 4, line: k };
+        return Entry::Refused {
+            number: 12,
+            line: k,
+            place: 4 + first_unprintable(line, bytes, len),
+        };
     }
     let parent = hexbytes::byte_of(line, bytes, 1);
     if bad_parent(k - 2, parent) {
-        return Entry::Refused { number: 5, line: k };
+        return refusal(5, k);
     }
     Entry::Cluster {
         parent,
@@ -147,29 +171,29 @@ fn flow_line(line: &[u8], bytes: &[u8; 68], k: usize, clusters: u8) -> Entry
     ensures { λ r. ⌜ r ≡ fieldsOf 3 k clusters (now (line .entry)) ⌝ }
 {
     if line.len() / 2 != 11 {
-        return Entry::Refused { number: 3, line: k };
+        return refusal(3, k);
     }
     let source = hexbytes::byte_of(line, bytes, 1);
-    if source >= clusters {
-        return Entry::Refused { number: 4, line: k };
-    }
     let sink = hexbytes::byte_of(line, bytes, 2);
-    if sink >= clusters {
-        return Entry::Refused { number: 4, line: k };
-    }
     let period = time_of(line, bytes, 3);
-    if period < 1 {
-        return Entry::Refused { number: 4, line: k };
-    }
-    if period > MOST_TIME {
-        return Entry::Refused { number: 4, line: k };
-    }
     let deadline = time_of(line, bytes, 7);
-    if deadline < 1 {
-        return Entry::Refused { number: 4, line: k };
-    }
-    if deadline > MOST_TIME {
-        return Entry::Refused { number: 4, line: k };
+    let flow = Flow {
+        source: source as u16,
+        sink: sink as u16,
+        period,
+        deadline,
+    };
+    let fields = flow_verdict(k, clusters, flow);
+    if let Verdict::Refused {
+        number,
+        line,
+        place,
+    } = fields {
+        return Entry::Refused {
+            number,
+            line,
+            place,
+        };
     }
     Entry::Flow {
         source,
@@ -180,7 +204,7 @@ fn flow_line(line: &[u8], bytes: &[u8; 68], k: usize, clusters: u8) -> Entry
 }
 
 // What line k is, where the header says so many clusters and flows; `ended` says whether an LF ends
-// it. The tests stand in the order of their refusal numbers. Where the line is well formed, its
+// it. The tests stand in the order in which they decide. Where the line is well formed, its
 // bytes stand in `bytes`.
 pub fn line_entry(
     line: &[u8],
@@ -194,14 +218,14 @@ pub fn line_entry(
     ensures { λ r. ⌜ (r ≡ entryOf k clusters flows (record { chars = now (line .entry); ended = ended })) × (malformed 136 (record { chars = now (line .entry); ended = ended }) ≡ false → Decoded (now (line .entry)) (now (bytes .exit))) ⌝ }
 {
     if hexbytes::is_malformed(line, ended, MOST_DIGITS, bytes) {
-        return Entry::Refused { number: 1, line: k };
+        return refusal(1, k);
     }
     let kind = due_at(k, clusters, flows);
     if kind == 0 {
-        return Entry::Refused { number: 2, line: k };
+        return refusal(2, k);
     }
     if hexbytes::byte_of(line, bytes, 0) != kind {
-        return Entry::Refused { number: 2, line: k };
+        return refusal(2, k);
     }
     if kind == 1 {
         return header_line(line, bytes, k);

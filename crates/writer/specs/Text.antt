@@ -13,6 +13,7 @@ use Rattle.site.specs.declared.Flow.{Flow}
 use Rattle.site.specs.declared.Site.{Site}
 use Rattle.site.specs.declared.Verdict.{Verdict}
 use Rattle.site.specs.declared.Verdict.the-variants.{Accepted, Refused}
+use Rattle.site.specs.Fields.{noPlace}
 use Rattle.site.specs.Answers.{Answer, gives, refuses, shortRoom}
 use Rattle.writer.specs.declared.Written.{Written}
 use Rattle.writer.specs.declared.Written.the-variants.{Length, Refused as RefusedWriting}
@@ -47,18 +48,18 @@ textOf s =
 -- what the writer's answer says: how long the text is
 abbrev pub writtenSays : Written → Answer
 writtenSays (Length n) = gives (n ∷ [])
-writtenSays (RefusedWriting number line) = refuses number line
+writtenSays (RefusedWriting number line place) = refuses number line place
 
 -- what is answered in a room of so many bytes where the text is the answer
 abbrev pub fitting : List ℕ → ℕ → Written
-fitting text room = cond (leb (length text) room) (Length (length text)) (RefusedWriting shortRoom 0)
+fitting text room = cond (leb (length text) room) (Length (length text)) (RefusedWriting shortRoom 0 noPlace)
 
 -- the writer's answer: the check's refusal, else 9 where the room is shorter than the text, else the text's length
 unfoldable pub written : Verdict → List ℕ → ℕ → Written
-written (Refused m k) text room = RefusedWriting m k
+written (Refused m k p) text room = RefusedWriting m k p
 written Accepted text room = fitting text room
 
 -- the room after it: a refusal leaves it as it was
 unfoldable pub roomAfter : Verdict → List ℕ → List ℕ → List ℕ
-roomAfter (Refused m k) text room = room
+roomAfter (Refused m k p) text room = room
 roomAfter Accepted text room = handed text room

@@ -1,6 +1,7 @@
 // The site writer: the text of a site's records, into a room that the caller lends.
 use site::Cluster;
 use site::Flow;
+use site::NO_PLACE;
 use site::Site;
 use site::Verdict;
 ghost use mathlib.Core.Path.{_≡_};
@@ -15,7 +16,17 @@ ghost use Rattle.writer.specs.Text.{headerBytes, clusterBytes, flowBytes
 // What the writer answers: how many bytes of the room the text fills, or the refusal.
 pub enum Written {
     Length(usize),
-    Refused { number: u8, line: usize },
+    Refused { number: u8, line: usize, place: u16 },
+}
+
+fn refused(number: u8, line: usize, place: u16) -> Written
+    ensures { λ r. ⌜ r ≡ Written.Refused number line place ⌝ }
+{
+    Written::Refused {
+        number,
+        line,
+        place,
+    }
 }
 
 // Writes the header line at the room's start, and gives the place behind it.
@@ -129,7 +140,7 @@ fn put_site(room: &mut [u8], site: Site) -> Written
     let flows = site.flows;
     let size = 9 + clusters_size(clusters, n) + flows_size(flows, f);
     if room.len() < size {
-        return Written::Refused { number: 9, line: 0 };
+        return refused(9, 0, NO_PLACE);
     }
     let behind_header = put_header(room, site.cluster_count, site.flow_count);
     let behind_clusters = put_clusters(room, behind_header, clusters, n);
@@ -145,7 +156,11 @@ pub fn write(site: Site, room: &mut [u8]) -> Written
 {
     let verdict = records::check(site);
     match verdict {
-        Verdict::Refused { number, line } => Written::Refused { number, line },
+        Verdict::Refused {
+            number,
+            line,
+            place,
+        } => refused(number, line, place),
         Verdict::Accepted => put_site(room, site),
     }
 }

@@ -35,6 +35,15 @@ slice-aggregate-write-all c = sym (length-take-le _ _ (array-share-prefix-room (
 write-all-requires : tie.Need-write-all-requires
 write-all-requires c κs = search needs
 
+array-share-prefix-text-2 : tie.Need-array-share-prefix-text-2
+array-share-prefix-text-2 c = search needs
+
+slice-aggregate-cartheron-place : tie.Need-slice-aggregate-cartheron-place
+slice-aggregate-cartheron-place c = search needs
+
+cartheron-place-requires : tie.Need-cartheron-place-requires
+cartheron-place-requires c κs = search needs
+
 refuse-requires : tie.Need-refuse-requires
 refuse-requires c κs = search needs
 
@@ -58,6 +67,9 @@ main-spec =
     array-share-prefix-room
     slice-aggregate-write-all
     write-all-requires
+    array-share-prefix-text-2
+    slice-aggregate-cartheron-place
+    cartheron-place-requires
     refuse-requires
     returns
     returns-2)

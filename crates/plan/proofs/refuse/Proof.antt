@@ -1,4 +1,4 @@
--- `plan::refuse` is safe: a line of four bytes takes nine characters with its LF, which is the room.
+-- `plan::refuse` is safe: a line of five bytes takes eleven characters with its LF, which is the room.
 use Rattle.hexline.specs.Digits.{hexes, numberBytes, fieldBytes, lineOf}
 use borrow.Author.Needs.{needs}
 use Rattle.plan.proofs.refuse.Statement.{statement}
@@ -7,11 +7,14 @@ use Rattle.plan.proofs.refuse.Tie as tie
 slice-aggregate-room : tie.Need-slice-aggregate-room
 slice-aggregate-room c = search needs
 
-cast-t10 : tie.Need-cast-t10
-cast-t10 c = search needs
+cast-t11 : tie.Need-cast-t11
+cast-t11 c = search needs
 
-cast-t12 : tie.Need-cast-t12
-cast-t12 c = search needs
+cast-t13 : tie.Need-cast-t13
+cast-t13 c = search needs
+
+cast-t15 : tie.Need-cast-t15
+cast-t15 c = search needs
 
 slice-aggregate-put-line : tie.Need-slice-aggregate-put-line
 slice-aggregate-put-line c = search needs
@@ -37,8 +40,9 @@ refuse-spec =
     tie.close
     (tie.spec
     slice-aggregate-room
-    cast-t10
-    cast-t12
+    cast-t11
+    cast-t13
+    cast-t15
     slice-aggregate-put-line
     slice-aggregate-put-line-2
     slice-aggregate-put-line-3

@@ -11,6 +11,9 @@ check-requires c κs = search needs
 enum-known-verdict : tie.Need-enum-known-verdict
 enum-known-verdict c = search needs
 
+refused-requires : tie.Need-refused-requires
+refused-requires c κs = search needs
+
 enum-told : tie.Need-enum-told
 enum-told c = search needs
 
@@ -20,8 +23,8 @@ plan-accepted-requires c κs = sym (c .before .before .before .check .ensures) �
 returns : tie.Need-returns
 unfolding answer roomAfter
 returns c =
-    let refused = sym (c .before .before .before .check .ensures) ∙ c .before .verdict .given .1 in
-    (rw refused, rw refused)
+    let said = sym (c .before .before .before .before .check .ensures) ∙ c .before .before .verdict .given .1 in
+    (c .refused .ensures ∙ rw said, rw said)
 
 same-length : tie.Need-same-length
 same-length c = search needs
@@ -40,6 +43,7 @@ plan-spec =
     (tie.spec
     check-requires
     enum-known-verdict
+    refused-requires
     enum-told
     plan-accepted-requires
     returns

@@ -29,12 +29,21 @@ use Rattle.planner.proofs.plan_accepted.Tie as tie
 wide-requires : tie.Need-wide-requires Inv-loop μ-loop Inv-loop2 μ-loop2
 wide-requires c κs = search needs
 
+refused-requires : tie.Need-refused-requires Inv-loop μ-loop Inv-loop2 μ-loop2
+refused-requires c κs = search needs
+
+refused-requires-2 : tie.Need-refused-requires-2 Inv-loop μ-loop Inv-loop2 μ-loop2
+refused-requires-2 c κs = search needs
+
+refused-requires-3 : tie.Need-refused-requires-3 Inv-loop μ-loop Inv-loop2 μ-loop2
+refused-requires-3 c κs = search needs
+
 returns : tie.Need-returns Inv-loop μ-loop Inv-loop2 μ-loop2
 returns c =
-    let planned = c .before .before in
+    let planned = c .before .before .before in
     let room = start (first planned) .args .room .now in
-    let short : length room < length (text planned) = omega (arith, c .if1 .taken, text-size planned) in
-    (rw (planned-here planned, lt-leb _ _ short), rw (planned-here planned) (sym (short-handed room (text planned) short)))
+    let short : length room < length (text planned) = omega (arith, c .before .if1 .taken, text-size planned) in
+    (c .refused3 .ensures ∙ rw (planned-here planned, lt-leb _ _ short), rw (planned-here planned) (sym (short-handed room (text planned) short)))
 
 put-header-requires : tie.Need-put-header-requires Inv-loop μ-loop Inv-loop2 μ-loop2
 put-header-requires c κs =
@@ -45,14 +54,14 @@ put-header-requires c κs =
 returns-2 : tie.Need-returns-2 Inv-loop μ-loop Inv-loop2 μ-loop2
 unfolding scheduledAs
 returns-2 c =
-    let none = scheduled-as (c .before .before .before) (c .enum-told .given .1) in
-    (rw none, rw none)
+    let none = scheduled-as (c .before .before .before .before) (c .before .enum-told .given .1) in
+    (c .refused .ensures ∙ rw none, rw none)
 
 returns-3 : tie.Need-returns-3 Inv-loop μ-loop Inv-loop2 μ-loop2
 unfolding scheduledAs
 returns-3 c =
-    let none = scheduled-as (c .before .before .before) (c .enum-told2 .given .1) in
-    (rw none, rw none)
+    let none = scheduled-as (c .before .before .before .before) (c .before .enum-told2 .given .1) in
+    (c .refused2 .ensures ∙ rw none, rw none)
 
 same-length : tie.Need-same-length Inv-loop μ-loop Inv-loop2 μ-loop2
 same-length c = written (c .before) .0 .same-length ∙ headed (c .before) .put-header .kept .0
@@ -97,8 +106,11 @@ plan-accepted-spec =
     placed.slice-aggregate-place-clusters
     placed.place-clusters-requires
     placed.enum-told
+    refused-requires
     placed.enum-told-2
+    refused-requires-2
     placed.enum-known-schedule
+    refused-requires-3
     returns
     put-header-requires
     writing.loop2-holds

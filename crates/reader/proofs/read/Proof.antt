@@ -8,8 +8,10 @@ use Prim.Native.Nat.{_-_}
 use native.Mathlib.Omega.{arith}
 use Rattle.hexline.specs.Loops.{every-more}
 use Rattle.hexline.specs.LineLaws.{line-inside}
+use Rattle.site.specs.declared.Tag.{Tag}
 use Rattle.site.specs.Records.{noSite}
 use Rattle.tags.specs.TagLaws.{tag-is-taken, tag-not-taken}
+use Rattle.reader.specs.Prints.{printOf}
 use Rattle.reader.specs.Reading.{withHeader, withCluster, withFlow}
 use Rattle.reader.specs.ReadLaws.{header-is}
 use Rattle.reader.specs.LeftLaws.{left-refused, left-repeated, left-none, left-missing}
@@ -60,7 +62,7 @@ returns : tie.Need-returns Inv-loop2 μ-loop2 Inv-loop μ-loop
 returns c =
     let turn = c .before .before .before .before in
     let is = sym (turn .line-entry .ensures .0) ∙ c .before .before .entry .given .1 in
-    c .refused .ensures ∙ sym (left-refused (text turn) (at turn) (number turn) (records turn) (end turn) (running turn) (ended turn) _ _ is) ∙ reached turn .left
+    c .refused .ensures ∙ sym (left-refused (text turn) (at turn) (number turn) (records turn) (end turn) (running turn) (ended turn) _ _ _ is) ∙ reached turn .left
 
 enum-known-entry-2 : tie.Need-enum-known-entry-2 Inv-loop2 μ-loop2 Inv-loop μ-loop
 enum-known-entry-2 c = search needs
@@ -87,25 +89,32 @@ tag-of-requires c κs =
 print-of-requires : tie.Need-print-of-requires Inv-loop2 μ-loop2 Inv-loop μ-loop
 print-of-requires c κs = search needs
 
+tag-of-requires-2 : tie.Need-tag-of-requires-2 Inv-loop2 μ-loop2 Inv-loop μ-loop
+tag-of-requires-2 c κs =
+    let turn = c .before .before .before .before .before .before .before .before .before in
+    let line = cluster-line turn (c .before .before .before .before .before .before .before .entry3 .given .1) in
+    (turn .line-entry .ensures .1 (line .formed), line .whole)
+
 sub-i : tie.Need-sub-i Inv-loop2 μ-loop2 Inv-loop μ-loop
-sub-i c = omega (arith, cluster-room (c .before .before .before .before .before .before))
+sub-i c = omega (arith, cluster-room (c .before .before .before .before .before .before .before .before))
 
 first-alike-requires : tie.Need-first-alike-requires Inv-loop2 μ-loop2 Inv-loop μ-loop
-first-alike-requires c κs = omega (arith, cluster-room (c .before .before .before .before .before .before .before))
+first-alike-requires c κs = omega (arith, cluster-room (c .before .before .before .before .before .before .before .before .before))
 
 loop2-holds : tie.Need-loop2-holds Inv-loop2 μ-loop2 Inv-loop μ-loop
 loop2-holds c =
-    let turn = c .before .before .before .before .before .before .before .before .before .before in
-    let line = cluster-line turn (c .before .before .before .before .before .before .before .before .entry3 .given .1) in
-    let tag = c .before .before .before .before .before .tag-of in
+    let turn = c .before .before .before .before .before .before .before .before .before .before .before .before in
+    let line = cluster-line turn (c .before .before .before .before .before .before .before .before .before .before .entry3 .given .1) in
+    let tag = c .before .before .tag-of2 in
+    let print = c .before .before .before .before .print-of .ensures ∙ ap (λ (t : Tag). printOf (t .bytes)) (c .before .before .before .before .before .before .before .tag-of .ensures ∙ sym (tag .ensures)) in
     let passed = c .first-alike .ensures in
-    (passed .0, reached-unlike (text turn) (at turn) (number turn) (records turn) (prints turn) (reached turn) (end turn) (running turn) (ended turn) _ _ _ _ line (tag .result) (tag .ensures) _ (c .before .before .print-of .ensures) _ (passed .0) (passed .1))
+    (passed .0, reached-unlike (text turn) (at turn) (number turn) (records turn) (prints turn) (reached turn) (end turn) (running turn) (ended turn) _ _ _ _ line (tag .result) (tag .ensures) _ print _ (passed .0) (passed .1))
 
 mul-earlier : tie.Need-mul-earlier Inv-loop2 μ-loop2 Inv-loop μ-loop
-mul-earlier c = omega (arith, c .loop2-test .taken, cluster-room (c .before .before .before .before .before .before .before .before .before .before))
+mul-earlier c = omega (arith, c .loop2-test .taken, cluster-room (c .before .before .before .before .before .before .before .before .before .before .before .before))
 
 array-copy-out-earlier : tie.Need-array-copy-out-earlier Inv-loop2 μ-loop2 Inv-loop μ-loop
-array-copy-out-earlier c = omega (arith, c .loop2-test .taken, cluster-room (c .before .before .before .before .before .before .before .before .before .before))
+array-copy-out-earlier c = omega (arith, c .loop2-test .taken, cluster-room (c .before .before .before .before .before .before .before .before .before .before .before .before))
 
 same-tag-requires : tie.Need-same-tag-requires Inv-loop2 μ-loop2 Inv-loop μ-loop
 same-tag-requires c κs = search needs
@@ -115,16 +124,16 @@ refused-requires-2 c κs = search needs
 
 returns-2 : tie.Need-returns-2 Inv-loop2 μ-loop2 Inv-loop μ-loop
 returns-2 c =
-    let turn = c .before .before .before .before .before .before .before .before .before .before .before .before .before .before .before .before in
-    let line = cluster-line turn (c .before .before .before .before .before .before .before .before .before .before .before .before .before .before .entry3 .given .1) in
-    let tag = c .before .before .before .before .before .before .before .before .before .before .before .tag-of in
+    let turn = c .before .before .before .before .before .before .before .before .before .before .before .before .before .before .before .before .before .before in
+    let line = cluster-line turn (c .before .before .before .before .before .before .before .before .before .before .before .before .before .before .before .before .entry3 .given .1) in
+    let tag = c .before .before .before .before .before .before .before .before .tag-of2 in
     let earlier = c .before .before .before .before .before .loop2 .j in
     let taken = tag-is-taken _ _ _ earlier (c .before .before .before .before .loop2-test .taken) (sym (c .before .before .same-tag .ensures) ∙ c .before .if1 .taken) in
     let left = left-repeated (text turn) (at turn) (number turn) (records turn) (end turn) (running turn) (ended turn) _ _ _ _ line (tag .result) (tag .ensures) taken in
     c .refused2 .ensures ∙ sym left ∙ reached turn .left
 
 add-j : tie.Need-add-j Inv-loop2 μ-loop2 Inv-loop μ-loop
-add-j c = search needs
+add-j c = omega (arith, c .before .before .before .loop2-test .taken, cluster-room (c .before .before .before .before .before .before .before .before .before .before .before .before .before .before .before))
 
 loop2-less : tie.Need-loop2-less Inv-loop2 μ-loop2 Inv-loop μ-loop
 loop2-less c = search needs
@@ -133,38 +142,39 @@ loop2-again : tie.Need-loop2-again Inv-loop2 μ-loop2 Inv-loop μ-loop
 loop2-again c = (search needs, every-more _ _ (c .before .before .before .before .loop2 .inv .1) (ap not (sym (c .before .same-tag .ensures) ∙ c .if1 .left)))
 
 mul-clusters : tie.Need-mul-clusters Inv-loop2 μ-loop2 Inv-loop μ-loop
-mul-clusters c = omega (arith, cluster-room (c .before .before .before .before .before .before .before .before .before .before))
+mul-clusters c = omega (arith, cluster-room (c .before .before .before .before .before .before .before .before .before .before .before .before))
 
 array-set-from-clusters : tie.Need-array-set-from-clusters Inv-loop2 μ-loop2 Inv-loop μ-loop
-array-set-from-clusters c = omega (arith, cluster-room (c .before .before .before .before .before .before .before .before .before .before))
+array-set-from-clusters c = omega (arith, cluster-room (c .before .before .before .before .before .before .before .before .before .before .before .before))
 
 mul-prints : tie.Need-mul-prints Inv-loop2 μ-loop2 Inv-loop μ-loop
-mul-prints c = omega (arith, cluster-room (c .before .before .before .before .before .before .before .before .before .before))
+mul-prints c = omega (arith, cluster-room (c .before .before .before .before .before .before .before .before .before .before .before .before))
 
 array-write-prints : tie.Need-array-write-prints Inv-loop2 μ-loop2 Inv-loop μ-loop
-array-write-prints c = omega (arith, cluster-room (c .before .before .before .before .before .before .before .before .before .before))
+array-write-prints c = omega (arith, cluster-room (c .before .before .before .before .before .before .before .before .before .before .before .before))
 
 loop-less-2 : tie.Need-loop-less-2 Inv-loop2 μ-loop2 Inv-loop μ-loop
-loop-less-2 c = onward (c .before .before .before .before .before .before .before .before .before .before .before .before)
+loop-less-2 c = onward (c .before .before .before .before .before .before .before .before .before .before .before .before .before .before)
 
 loop-again-2 : tie.Need-loop-again-2 Inv-loop2 μ-loop2 Inv-loop μ-loop
 unfolding withCluster
 loop-again-2 c =
-    let turn = c .before .before .before .before .before .before .before .before .before .before .before .before in
-    let line = cluster-line turn (c .before .before .before .before .before .before .before .before .before .before .entry3 .given .1) in
-    let tag = c .before .before .before .before .before .before .before .tag-of in
+    let turn = c .before .before .before .before .before .before .before .before .before .before .before .before .before .before in
+    let line = cluster-line turn (c .before .before .before .before .before .before .before .before .before .before .before .before .entry3 .given .1) in
+    let tag = c .before .before .before .before .tag-of2 in
+    let print = c .before .before .before .before .before .before .print-of .ensures ∙ ap (λ (t : Tag). printOf (t .bytes)) (c .before .before .before .before .before .before .before .before .before .tag-of .ensures ∙ sym (tag .ensures)) in
     let all : c .before .loop2 .j ≡ number turn - 2 = omega arith in
     let fresh = tag-not-taken _ _ _ (rw all at (c .before .loop2 .inv .1)) in
-    reached-cluster (text turn) (at turn) (number turn) (records turn) (prints turn) (reached turn) (end turn) (running turn) (ended turn) _ _ _ _ line (tag .result) (tag .ensures) _ (c .before .before .before .before .print-of .ensures) fresh
+    reached-cluster (text turn) (at turn) (number turn) (records turn) (prints turn) (reached turn) (end turn) (running turn) (ended turn) _ _ _ _ line (tag .result) (tag .ensures) _ print fresh
 
 enum-known-entry-4 : tie.Need-enum-known-entry-4 Inv-loop2 μ-loop2 Inv-loop μ-loop
 enum-known-entry-4 c = search needs
 
-cast-t56 : tie.Need-cast-t56 Inv-loop2 μ-loop2 Inv-loop μ-loop
-cast-t56 c = search needs
+cast-t59 : tie.Need-cast-t59 Inv-loop2 μ-loop2 Inv-loop μ-loop
+cast-t59 c = search needs
 
-cast-t57 : tie.Need-cast-t57 Inv-loop2 μ-loop2 Inv-loop μ-loop
-cast-t57 c = search needs
+cast-t60 : tie.Need-cast-t60 Inv-loop2 μ-loop2 Inv-loop μ-loop
+cast-t60 c = search needs
 
 sub-j : tie.Need-sub-j Inv-loop2 μ-loop2 Inv-loop μ-loop
 sub-j c = omega (arith, flow-room (c .before))
@@ -219,7 +229,7 @@ read-spec =
     tie.close
     (tie.spec Inv-loop2 μ-loop2 Inv-loop μ-loop no-cluster-requires no-flow-requires loop-holds line-end-requires sub-line part-line-start part-line-end line-entry-requires
     add-next add-after enum-known-entry refused-requires returns enum-known-entry-2 loop-less loop-again enum-known-entry-3 tag-of-requires
-    print-of-requires sub-i first-alike-requires loop2-holds
+    print-of-requires tag-of-requires-2 sub-i first-alike-requires loop2-holds
     mul-earlier array-copy-out-earlier same-tag-requires refused-requires-2 returns-2 add-j loop2-less loop2-again mul-clusters array-set-from-clusters
-    mul-prints array-write-prints loop-less-2 loop-again-2 enum-known-entry-4 cast-t56 cast-t57 sub-j wide-requires sub-j-2 mul-flows array-set-from-flows loop-less-3 loop-again-3 due-at-requires
+    mul-prints array-write-prints loop-less-2 loop-again-2 enum-known-entry-4 cast-t59 cast-t60 sub-j wide-requires sub-j-2 mul-flows array-set-from-flows loop-less-3 loop-again-3 due-at-requires
     accepted-requires returns-3 refused-requires-3 returns-4)

@@ -1,71 +1,78 @@
--- `records::check` meets its contract: counts out of range refuse the header, and within their ranges the clusters decide, then the flows.
-use mathlib.Core.Path.{_≡_, sym, _∙_}
-use borrow.Author.Tests.{le-leb, lt-leb, lt-ltb}
-use Rattle.site.specs.Records.{headerOutside}
-use Rattle.records.specs.Check.{clustersVerdict, flowsVerdict, orElse, checked}
-use Rattle.records.specs.CheckLaws.{records-decide}
+-- `records::check` meets its contract: the header's fields decide, and where its counts are in range the clusters, then the flows.
+use mathlib.Core.Path.{sym, _∙_}
+use native.Mathlib.Omega.{arith}
+use Rattle.site.specs.FieldLaws.{header-counts}
+use Rattle.records.specs.Check.{checked}
 use borrow.Author.Needs.{needs}
 use Rattle.records.proofs.check.Statement.{statement}
 use Rattle.records.proofs.check.Tie as tie
 
-clusters-decide : (c : tie.After-check-clusters) → let site = c .before .before .before .before .before .before .args .site in
-    checked site ≡ orElse (c .check-clusters .result) (flowsVerdict (site .«cluster_count») (site .flows) (site .«flow_count»))
-clusters-decide c =
-    let counts = c .before .before .before in
-    let site = counts .before .before .before .args .site in
-    let verdict : c .check-clusters .result ≡ clustersVerdict (site .clusters) (site .«cluster_count») = c .check-clusters .ensures ∙ rw (c .before .wide .ensures .0) in
-    records-decide site (counts .before .before .if1 .left) (counts .before .if2 .left) (counts .if3 .left) ∙ rw (← verdict)
+header-verdict-requires : tie.Need-header-verdict-requires
+header-verdict-requires c κs = search needs
+
+enum-told : tie.Need-enum-told
+enum-told c = search needs
+
+enum-told-2 : tie.Need-enum-told-2
+enum-told-2 c = search needs
 
 returns : tie.Need-returns
-unfolding checked headerOutside
-returns c = simp (lt-leb _ _ (c .if1 .taken))
-
-returns-2 : tie.Need-returns-2
-unfolding checked headerOutside
-returns-2 c = simp (le-leb _ _ (c .before .if1 .left), lt-leb _ _ (c .if2 .taken))
-
-returns-3 : tie.Need-returns-3
-unfolding checked headerOutside
-returns-3 c = simp (le-leb _ _ (c .before .before .if1 .left), le-leb _ _ (c .before .if2 .left), lt-ltb _ _ (c .if3 .taken))
+unfolding checked
+returns c = simp (← c .before .before .header-verdict .ensures, c .enum-told2 .given .1)
 
 wide-requires : tie.Need-wide-requires
 wide-requires c κs = search needs
 
 check-clusters-requires : tie.Need-check-clusters-requires
-check-clusters-requires c κs = search needs
+check-clusters-requires c κs =
+    let fine = c .before .before in
+    omega (arith, header-counts _ _ _ _ (sym (fine .before .before .header-verdict .ensures) ∙ fine .enum-told .given .1))
 
-enum-known-first : tie.Need-enum-known-first
-enum-known-first c = search needs
+enum-told-3 : tie.Need-enum-told-3
+enum-told-3 c = search needs
 
-enum-told : tie.Need-enum-told
-enum-told c = search needs
+enum-told-4 : tie.Need-enum-told-4
+enum-told-4 c = search needs
+
+returns-2 : tie.Need-returns-2
+unfolding checked
+returns-2 c =
+    let said = c .before .before in
+    let fine = said .before .before .before in
+    let clusters = rw (said .before .wide .ensures .0) at (said .check-clusters .ensures) in
+    simp (← fine .before .before .header-verdict .ensures, fine .enum-told .given .1, ← clusters, c .enum-told4 .given .1)
 
 wide-requires-2 : tie.Need-wide-requires-2
 wide-requires-2 c κs = search needs
 
 check-flows-requires : tie.Need-check-flows-requires
-check-flows-requires c κs = search needs
+check-flows-requires c κs =
+    let fine = c .before .before .before .before .before .before .before in
+    omega (arith, header-counts _ _ _ _ (sym (fine .before .before .header-verdict .ensures) ∙ fine .enum-told .given .1))
 
-returns-4 : tie.Need-returns-4
-returns-4 c = sym (clusters-decide (c .before .before .before) ∙ rw (c .before .first .given .1))
-
-returns-5 : tie.Need-returns-5
-returns-5 c =
-    let told = c .before .before .before in
-    c .check-flows .ensures ∙ rw (c .before .wide2 .ensures .0) (sym (clusters-decide (told .before .before) ∙ rw (told .enum-told .given .1)))
+returns-3 : tie.Need-returns-3
+unfolding checked
+returns-3 c =
+    let good = c .before .before .before in
+    let said = good .before .before in
+    let fine = said .before .before .before in
+    let clusters = rw (said .before .wide .ensures .0) at (said .check-clusters .ensures) in
+    let flows = rw (c .before .wide2 .ensures .0) at (c .check-flows .ensures) in
+    flows ∙ simp (← fine .before .before .header-verdict .ensures, fine .enum-told .given .1, ← clusters, good .enum-told3 .given .1)
 
 pub check-spec : {M : Type 1} → statement M
 check-spec =
     tie.close
     (tie.spec
+    header-verdict-requires
+    enum-told
+    enum-told-2
     returns
-    returns-2
-    returns-3
     wide-requires
     check-clusters-requires
-    enum-known-first
-    enum-told
+    enum-told-3
+    enum-told-4
+    returns-2
     wide-requires-2
     check-flows-requires
-    returns-4
-    returns-5)
+    returns-3)

@@ -9,8 +9,8 @@ use lib.ListN.{getD}
 use Rattle.hexline.specs.Loops.{every, every-none, every-more}
 use Rattle.site.specs.Records.{absent, sameTag}
 use Rattle.tags.specs.TagLaws.{tag-is-taken, tag-not-taken}
-use Rattle.records.specs.Check.{clusterRefusal, firstBad, clustersVerdict}
-use Rattle.records.specs.CheckLaws.{bad-here, bad-later, bad-none, refused-by-4, refused-by-5, refused-by-6, refused-by-none}
+use Rattle.records.specs.Check.{clusterChecked, eachOf, clustersVerdict}
+use Rattle.records.specs.CheckLaws.{bad-here, bad-later, bad-none, refused-by-field, refused-by-5, refused-by-6, refused-by-none}
 use borrow.Author.Needs.{needs}
 use Rattle.records.proofs.check_clusters.Statement.{statement}
 use Rattle.records.proofs.check_clusters.Tie as tie
@@ -22,7 +22,7 @@ abbrev μ-loop2 : tie.MeasureT-loop2
 μ-loop2 n clusters i cluster j₀ j = i - j
 
 abbrev Inv-loop : tie.InvT-loop
-Inv-loop n clusters i₀ i = (firstBad (clusterRefusal clusters) 2 (n - i) i ≡ clustersVerdict clusters n) × (i ≤ n)
+Inv-loop n clusters i₀ i = (eachOf (clusterChecked clusters) (n - i) i ≡ clustersVerdict clusters n) × (i ≤ n)
 
 abbrev μ-loop : tie.MeasureT-loop
 μ-loop n clusters i₀ i = n - i
@@ -37,30 +37,42 @@ mul-cluster c = search needs
 array-copy-out-cluster : tie.Need-array-copy-out-cluster Inv-loop2 μ-loop2 Inv-loop μ-loop
 array-copy-out-cluster c = search needs
 
-outside-cluster-requires : tie.Need-outside-cluster-requires Inv-loop2 μ-loop2 Inv-loop μ-loop
-outside-cluster-requires c κs = search needs
+add-cluster-verdict : tie.Need-add-cluster-verdict Inv-loop2 μ-loop2 Inv-loop μ-loop
+add-cluster-verdict c = search needs
 
-add-t14 : tie.Need-add-t14 Inv-loop2 μ-loop2 Inv-loop μ-loop
-add-t14 c = search needs
+cluster-verdict-requires : tie.Need-cluster-verdict-requires Inv-loop2 μ-loop2 Inv-loop μ-loop
+cluster-verdict-requires c κs = search needs
+
+enum-told : tie.Need-enum-told Inv-loop2 μ-loop2 Inv-loop μ-loop
+enum-told c = search needs
+
+enum-told-2 : tie.Need-enum-told-2 Inv-loop2 μ-loop2 Inv-loop μ-loop
+enum-told-2 c = search needs
 
 returns : tie.Need-returns Inv-loop2 μ-loop2 Inv-loop μ-loop
 returns c =
-    let was = c .before .before .before .before in
-    let outside = sym (c .before .outside-cluster .ensures) ∙ c .if1 .taken in
-    sym (bad-here _ _ _ (was .loop .i) 4 (c .before .before .before .loop-test .taken) (refused-by-4 _ _ outside) (omega arith)) ∙ was .loop .inv .0
+    let said = c .before .before in
+    let test = said .before .before in
+    let was = test .before in
+    let told = c .enum-told2 .given .1 in
+    let bad = refused-by-field _ _ _ _ _ (sym (said .cluster-verdict .ensures) ∙ told) in
+    told ∙ sym (bad-here _ _ (was .loop .i) _ _ _ (test .loop-test .taken) bad) ∙ was .loop .inv .0
 
 bad-parent-requires : tie.Need-bad-parent-requires Inv-loop2 μ-loop2 Inv-loop μ-loop
 bad-parent-requires c κs = search needs
 
-add-t16 : tie.Need-add-t16 Inv-loop2 μ-loop2 Inv-loop μ-loop
-add-t16 c = search needs
+add-t15 : tie.Need-add-t15 Inv-loop2 μ-loop2 Inv-loop μ-loop
+add-t15 c = search needs
 
 returns-2 : tie.Need-returns-2 Inv-loop2 μ-loop2 Inv-loop μ-loop
 returns-2 c =
-    let was = c .before .before .before .before .before .before in
-    let inside = sym (c .before .before .before .outside-cluster .ensures) ∙ c .before .before .if1 .left in
-    let misplaced = sym (c .before .bad-parent .ensures) ∙ c .if2 .taken in
-    sym (bad-here _ _ _ (was .loop .i) 5 (c .before .before .before .before .before .loop-test .taken) (refused-by-5 _ _ inside misplaced) (omega arith)) ∙ was .loop .inv .0
+    let fine = c .before .before in
+    let said = fine .before .before in
+    let test = said .before .before in
+    let was = test .before in
+    let inside = sym (said .cluster-verdict .ensures) ∙ fine .enum-told .given .1 in
+    let bad = refused-by-5 _ _ inside (sym (c .before .bad-parent .ensures) ∙ c .if1 .taken) in
+    sym (bad-here _ _ (was .loop .i) _ _ _ (test .loop-test .taken) bad) ∙ was .loop .inv .0
 
 loop2-holds : tie.Need-loop2-holds Inv-loop2 μ-loop2 Inv-loop μ-loop
 loop2-holds c = (search needs, every-none _)
@@ -74,18 +86,21 @@ array-copy-out-earlier c = search needs
 same-tag-requires : tie.Need-same-tag-requires Inv-loop2 μ-loop2 Inv-loop μ-loop
 same-tag-requires c κs = search needs
 
-add-t23 : tie.Need-add-t23 Inv-loop2 μ-loop2 Inv-loop μ-loop
-add-t23 c = search needs
+add-t22 : tie.Need-add-t22 Inv-loop2 μ-loop2 Inv-loop μ-loop
+add-t22 c = search needs
 
 returns-3 : tie.Need-returns-3 Inv-loop2 μ-loop2 Inv-loop μ-loop
 returns-3 c =
     let inner = c .before .before .before .before in
     let tests = inner .before in
-    let was = tests .before .before .before .before .before .before in
-    let inside = sym (tests .before .before .before .outside-cluster .ensures) ∙ tests .before .before .if1 .left in
-    let placed = sym (tests .before .bad-parent .ensures) ∙ tests .if2 .left in
-    let taken = tag-is-taken _ _ _ (inner .loop2 .j) (c .before .before .before .loop2-test .taken) (sym (c .before .same-tag .ensures) ∙ c .if3 .taken) in
-    sym (bad-here _ _ _ (was .loop .i) 6 (tests .before .before .before .before .before .loop-test .taken) (refused-by-6 _ _ inside placed taken) (omega arith)) ∙ was .loop .inv .0
+    let fine = tests .before .before in
+    let said = fine .before .before in
+    let test = said .before .before in
+    let was = test .before in
+    let inside = sym (said .cluster-verdict .ensures) ∙ fine .enum-told .given .1 in
+    let placed = sym (tests .before .bad-parent .ensures) ∙ tests .if1 .left in
+    let taken = tag-is-taken _ _ _ (inner .loop2 .j) (c .before .before .before .loop2-test .taken) (sym (c .before .same-tag .ensures) ∙ c .if2 .taken) in
+    sym (bad-here _ _ (was .loop .i) _ _ _ (test .loop-test .taken) (refused-by-6 _ _ inside placed taken)) ∙ was .loop .inv .0
 
 add-j : tie.Need-add-j Inv-loop2 μ-loop2 Inv-loop μ-loop
 add-j c = search needs
@@ -94,7 +109,7 @@ loop2-less : tie.Need-loop2-less Inv-loop2 μ-loop2 Inv-loop μ-loop
 loop2-less c = search needs
 
 loop2-again : tie.Need-loop2-again Inv-loop2 μ-loop2 Inv-loop μ-loop
-loop2-again c = (search needs, every-more _ _ (c .before .before .before .before .loop2 .inv .1) (ap not (sym (c .before .same-tag .ensures) ∙ c .if3 .left)))
+loop2-again c = (search needs, every-more _ _ (c .before .before .before .before .loop2 .inv .1) (ap not (sym (c .before .same-tag .ensures) ∙ c .if2 .left)))
 
 add-i : tie.Need-add-i Inv-loop2 μ-loop2 Inv-loop μ-loop
 add-i c = search needs
@@ -105,15 +120,18 @@ loop-less c = search needs
 loop-again : tie.Need-loop-again Inv-loop2 μ-loop2 Inv-loop μ-loop
 loop-again c =
     let tests = c .before .before in
-    let was = tests .before .before .before .before .before .before in
-    let inside = sym (tests .before .before .before .outside-cluster .ensures) ∙ tests .before .before .if1 .left in
-    let placed = sym (tests .before .bad-parent .ensures) ∙ tests .if2 .left in
+    let fine = tests .before .before in
+    let said = fine .before .before in
+    let test = said .before .before in
+    let was = test .before in
+    let inside = sym (said .cluster-verdict .ensures) ∙ fine .enum-told .given .1 in
+    let placed = sym (tests .before .bad-parent .ensures) ∙ tests .if1 .left in
     let all : c .before .loop2 .j ≡ was .loop .i = omega arith in
     let free = tag-not-taken _ _ _ (rw all at (c .before .loop2 .inv .1)) in
-    (sym (bad-later _ _ _ (was .loop .i) (tests .before .before .before .before .before .loop-test .taken) (refused-by-none _ _ inside placed free)) ∙ was .loop .inv .0, search needs)
+    (sym (bad-later _ _ (was .loop .i) (test .loop-test .taken) (refused-by-none _ _ inside placed free)) ∙ was .loop .inv .0, search needs)
 
 returns-4 : tie.Need-returns-4 Inv-loop2 μ-loop2 Inv-loop μ-loop
-returns-4 c = sym (bad-none _ _ _ (c .before .loop .i) (c .loop-test .left)) ∙ c .before .loop .inv .0
+returns-4 c = sym (bad-none _ _ (c .before .loop .i) (c .loop-test .left)) ∙ c .before .loop .inv .0
 
 pub check-clusters-spec : {M : Type 1} → statement M
 check-clusters-spec =
@@ -126,17 +144,19 @@ check-clusters-spec =
     loop-holds
     mul-cluster
     array-copy-out-cluster
-    outside-cluster-requires
-    add-t14
+    add-cluster-verdict
+    cluster-verdict-requires
+    enum-told
+    enum-told-2
     returns
     bad-parent-requires
-    add-t16
+    add-t15
     returns-2
     loop2-holds
     mul-earlier
     array-copy-out-earlier
     same-tag-requires
-    add-t23
+    add-t22
     returns-3
     add-j
     loop2-less

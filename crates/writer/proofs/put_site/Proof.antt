@@ -41,11 +41,14 @@ flows-size-requires c κs = search needs
 add-size-2 : tie.Need-add-size-2
 add-size-2 c = search needs
 
+refused-requires : tie.Need-refused-requires
+refused-requires c κs = search needs
+
 returns : tie.Need-returns
 returns c =
-    let args = c .before .before .before .before .before .before .before .before .args in
-    let short : length (args .room .now) < length (textOf (args .site)) = omega (arith, size (c .before)) in
-    (rw (lt-leb _ _ short), sym (short-handed (args .room .now) (textOf (args .site)) short))
+    let args = c .before .before .before .before .before .before .before .before .before .args in
+    let short : length (args .room .now) < length (textOf (args .site)) = omega (arith, c .before .if1 .taken, size (c .before .before)) in
+    (c .refused .ensures ∙ rw (lt-leb _ _ short), sym (short-handed (args .room .now) (textOf (args .site)) short))
 
 put-header-requires : tie.Need-put-header-requires
 put-header-requires c κs =
@@ -94,6 +97,7 @@ put-site-spec =
     add-size
     flows-size-requires
     add-size-2
+    refused-requires
     returns
     put-header-requires
     put-clusters-requires

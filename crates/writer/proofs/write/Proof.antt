@@ -12,6 +12,9 @@ check-requires c κs = search needs
 enum-known-verdict : tie.Need-enum-known-verdict
 enum-known-verdict c = search needs
 
+refused-requires : tie.Need-refused-requires
+refused-requires c κs = search needs
+
 enum-told : tie.Need-enum-told
 enum-told c = search needs
 
@@ -24,8 +27,8 @@ put-site-requires c κs =
 returns : tie.Need-returns
 unfolding written roomAfter
 returns c =
-    let refused = sym (c .before .before .before .check .ensures) ∙ c .before .verdict .given .1 in
-    (rw refused, rw refused)
+    let said = sym (c .before .before .before .before .check .ensures) ∙ c .before .before .verdict .given .1 in
+    (c .refused .ensures ∙ rw said, rw said)
 
 same-length : tie.Need-same-length
 same-length c = search needs
@@ -44,6 +47,7 @@ write-spec =
     (tie.spec
     check-requires
     enum-known-verdict
+    refused-requires
     enum-told
     put-site-requires
     returns

@@ -18,11 +18,11 @@ enum-told c = search needs
 slice-aggregate-print-line : tie.Need-slice-aggregate-print-line
 slice-aggregate-print-line c = search needs
 
-cast-t13 : tie.Need-cast-t13
-cast-t13 c = search needs
-
 cast-t14 : tie.Need-cast-t14
 cast-t14 c = search needs
+
+cast-t15 : tie.Need-cast-t15
+cast-t15 c = search needs
 
 slice-aggregate-print-line-2 : tie.Need-slice-aggregate-print-line-2
 slice-aggregate-print-line-2 c = search needs
@@ -45,8 +45,8 @@ print-reading-spec =
     print-refusal-requires
     enum-told
     slice-aggregate-print-line
-    cast-t13
     cast-t14
+    cast-t15
     slice-aggregate-print-line-2
     print-line-requires
     returns

@@ -1,4 +1,4 @@
--- `demands::answers::print_refusal` is safe: the line that it prints has four bytes.
+-- `demands::answers::print_refusal` is safe: the line that it prints has five bytes.
 use mathlib.Core.Path.{refl}
 use native.Mathlib.Omega.{arith}
 use Rattle.hexline.specs.Digits.{numberBytes, fieldBytes}

@@ -56,8 +56,8 @@ module _ (c : tie.After-plan-records) where
   plan-short : (len order : ℕ) → answer ≡ Plan len order → len ≤ 9673
   plan-short len order is = omega (arith, exact .plan-is-placing len order is .size, plan-size-at-most site (taken (text was) (room was) site read))
 
-  line-zero : (m k : ℕ) → answer ≡ RefusedPlan m k → k ≡ 0
-  line-zero m k is = answer-refusal (text was) (room was) site read answer after exact m k is .2
+  line-zero : (m k p : ℕ) → answer ≡ RefusedPlan m k p → k ≡ 0
+  line-zero m k p is = answer-refusal (text was) (room was) site read answer after exact m k p is .2
 
   -- an answer that is known gives its number
   number-of : (a : Planned) → answer ≡ a → ExactNumber (text was) (room was) (numberOf (plannedSays a)) after
@@ -72,7 +72,7 @@ enum-known-verdict : tie.Need-enum-known-verdict
 enum-known-verdict c = search needs
 
 one-number-requires : tie.Need-one-number-requires
-one-number-requires c κs = let was = c .before .before .before in refusal-in-range (text was) _ _ (verdict-is was _ (c .before .verdict .given .1)) .2
+one-number-requires c κs = let was = c .before .before .before in refusal-in-range (text was) _ _ _ (verdict-is was _ (c .before .verdict .given .1)) .1
 
 enum-told : tie.Need-enum-told
 enum-told c = search needs
@@ -90,13 +90,13 @@ enum-known-planned-2 : tie.Need-enum-known-planned-2
 enum-known-planned-2 c = search needs
 
 one-number-requires-2 : tie.Need-one-number-requires-2
-one-number-requires-2 c κs = let none = line-zero (c .before .before .before .before .before) _ _ (c .before .planned2 .given .1) in omega arith
+one-number-requires-2 c κs = let none = line-zero (c .before .before .before .before .before) _ _ _ (c .before .planned2 .given .1) in omega arith
 
 returns : tie.Need-returns
 returns c =
     let was = c .before .before .before .before in
     rw (c .one-number .ensures)
-    (number-exact (text was) (room was) _ (room was) (returned-by-reader (text was) (room was) _ _ (verdict-is was _ (c .before .before .verdict .given .1))))
+    (number-exact (text was) (room was) _ (room was) (returned-by-reader (text was) (room was) _ _ _ (verdict-is was _ (c .before .before .verdict .given .1))))
 
 same-length : tie.Need-same-length
 same-length c = c .before .before .before .before .before .plan-records .kept .1 .0

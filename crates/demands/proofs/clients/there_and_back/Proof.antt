@@ -1,11 +1,13 @@
 -- `demands::clients::there_and_back` meets its contract: what the writer wrote reads to the same records, and a refusal of the writer is given as it is.
 use mathlib.Core.Path.{_≡_, sym, _∙_, subst}
+use mathlib.Core.Bool.{true}
 use mathlib.Core.List.{List}
 use Prim.Native.Nat.{ℕ, _≤_}
 use native.Mathlib.Omega.{arith}
 use lib.ListN.{length}
 use lib.Seq.{length-take-le}
 use Rattle.site.specs.declared.Site.{Site}
+use Rattle.site.specs.Table.{recordNumber}
 use Rattle.reader.specs.declared.Reading.{Reading}
 use Rattle.reader.specs.Reading.{accepted, refused}
 use Rattle.records.specs.CheckNumbers.{ByRecords, check-by-records}
@@ -26,24 +28,24 @@ module _ (s : Site) (before : List ℕ) (w : Written) (after : List ℕ) (exact 
       let text = exact .text-is n is in
       record {
         same-records = λ a fits. (back, rw (text .size) at (text .bytes));
-        refused-alike = λ number line e. absurd (let a = whole .0 in let z : _≡_ {A = ℕ} 0 1 = cc in omega arith);
+        refused-alike = λ number line place e. absurd (let a = whole .0 in let z : _≡_ {A = ℕ} 0 1 = cc in omega arith);
         short-room = λ a less. absurd (omega (arith, whole .1));
       }
 
-  refused-back : (m k : ℕ) → w ≡ RefusedWriting m k → r ≡ refused m k → BackAgain s before r after
-  refused-back m k is back =
-      let same = exact .refusal-writes-nothing m k is in
+  refused-back : (m k p : ℕ) → w ≡ RefusedWriting m k p → r ≡ refused m k p → BackAgain s before r after
+  refused-back m k p is back =
+      let same = exact .refusal-writes-nothing m k p is in
       record {
         same-records = λ a fits. absurd (let e = exact .written-exactly .1 (a, fits) .1 in let z : _≡_ {A = ℕ} 0 1 = cc in omega arith);
-        refused-alike = λ number line e.
-            let by : (4 ≤ number) × (number ≤ 6) = subst ByRecords e (check-by-records s) in
-            let q = exact .refused-exactly number line (by .0) (by .1) .1 e in
-            let p : m ≡ number = cc in let l : k ≡ line = cc in
-            (rw (p, l) at back, same);
+        refused-alike = λ number line place e.
+            let by : recordNumber number ≡ true = subst ByRecords e (check-by-records s) in
+            let q = exact .refused-exactly number line place by .1 e in
+            let b : m ≡ number = cc in let l : k ≡ line = cc in let at : p ≡ place = cc in
+            (rw (b, l, at) at back, same);
         short-room = λ a less.
             let q = exact .short-exactly .1 (a, less) in
-            let p : m ≡ 9 = cc in let l : k ≡ 0 = cc in
-            (rw (p, l) at back, same);
+            let b : m ≡ 9 = cc in let l : k ≡ 0 = cc in let at : p ≡ 255 = cc in
+            (rw (b, l, at) at back, same);
       }
 
 -- a text that was written is no longer than the room after it
@@ -91,7 +93,7 @@ returns-2 : tie.Need-returns-2
 returns-2 c =
     let called = c .before .before .before .before .before .before in
     let args = called .before .before .before .args in
-    refused-back (args .site) (args .room .now) _ _ (called .write-records .ensures) _ _ _ (c .before .before .written2 .given .1) (c .refused .ensures)
+    refused-back (args .site) (args .room .now) _ _ (called .write-records .ensures) _ _ _ _ (c .before .before .written2 .given .1) (c .refused .ensures)
 
 pub there-and-back-spec : {M : Type 1} → statement M
 there-and-back-spec =

@@ -23,10 +23,10 @@ abbrev pub recordsOf : List Cluster → List Flow → ℕ → ℕ → Site
 recordsOf clusters flows n f = record { flows = flows; «cluster_count» = n; clusters = clusters; «flow_count» = f }
 
 abbrev pub Inv-loop2 : tie.InvT-loop2
-Inv-loop2 text clusters flows n f prints at k end next after parent order len tag print i j₀ j = (j ≤ i) × (every j (λ m. not (sameTag (getD clusters m absent .tag) tag)) ≡ true)
+Inv-loop2 text clusters flows n f prints at k end next after parent order len print tag i j₀ j = (j ≤ i) × (every j (λ m. not (sameTag (getD clusters m absent .tag) tag)) ≡ true)
 
 abbrev pub μ-loop2 : tie.MeasureT-loop2
-μ-loop2 text clusters flows n f prints at k end next after parent order len tag print i j₀ j = i - j
+μ-loop2 text clusters flows n f prints at k end next after parent order len print tag i j₀ j = i - j
 
 abbrev pub Inv-loop : tie.InvT-loop
 Inv-loop text clusters₀ flows₀ n₀ f₀ prints₀ at₀ k₀ clusters flows n f prints at k = Reached text at k (recordsOf clusters flows n f) prints

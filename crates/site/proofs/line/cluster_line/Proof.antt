@@ -1,26 +1,27 @@
--- `site::line::cluster_line` meets its contract: the tests stand in the table's order, and each return computes by those on the way. That the tag
--- is printable is asked of the line's bytes, before any tag is made.
+-- `site::line::cluster_line` meets its contract: the length, then the fields before the tag, then the tag bytes, then the parent.
 use mathlib.Core.Path.{_≡_, sym, _∙_}
-use mathlib.Core.Bool.{true, false}
 use Prim.Native.Nat.{_+_, _/_}
 use native.Mathlib.Omega.{arith}
 use lib.ListN.{length}
-use borrow.Author.Tests.{lt-leb, le-leb, lt-ltb, le-ltb, eq-eqb, ne-eqb, not-true, not-false}
+use borrow.Author.Tests.{eq-eqb, ne-eqb, not-true, not-false}
 use Rattle.hexline.specs.Digits.{byteAt}
-use Rattle.site.specs.Records.{printableTag}
-use Rattle.site.specs.Lines.{size, tagAt}
-use Rattle.site.specs.LinesLaws.{printable-read, cluster-ranges, cluster-parent}
-use Rattle.site.specs.Table.{wrongLength, outside, misplaced, recordOf, fieldsOf}
+use Rattle.site.specs.FieldLaws.{tag-length-in}
+use Rattle.site.specs.Lines.{size}
+use Rattle.site.specs.LinesLaws.{cluster-parent, cluster-line-parts, tag-line-good, tag-line-bad}
+use Rattle.site.specs.Table.{wrongLength, fieldsVerdict, misplaced, recordOf, fieldsOf}
 use borrow.Author.Needs.{needs}
 use Rattle.site.proofs.line.cluster_line.Statement.{statement}
 use Rattle.site.proofs.line.cluster_line.Tie as tie
 
+refusal-requires : tie.Need-refusal-requires
+refusal-requires c κs = search needs
+
 returns : tie.Need-returns
-unfolding fieldsOf wrongLength size outside misplaced recordOf
+unfolding fieldsOf wrongLength size fieldsVerdict misplaced recordOf
 returns c =
-    let line = c .before .before .args .line .now in
+    let line = c .before .before .before .args .line .now in
     let short : length line / 2 ≡ 4 + byteAt line 3 → ⊥ = λ e. omega arith in
-    simp (ne-eqb _ _ short)
+    c .refusal .ensures ∙ simp (ne-eqb _ _ short)
 
 byte-of-requires : tie.Need-byte-of-requires
 byte-of-requires c κs = search needs
@@ -31,35 +32,58 @@ wide-requires c κs = search needs
 add-if2 : tie.Need-add-if2
 add-if2 c = search needs
 
+refusal-requires-2 : tie.Need-refusal-requires-2
+refusal-requires-2 c κs = search needs
+
 returns-2 : tie.Need-returns-2
-unfolding fieldsOf wrongLength size outside misplaced recordOf
-returns-2 c = simp (← c .before .before .byte-of .ensures, ← c .before .wide .ensures .0, ne-eqb _ _ (c .if2 .taken))
+unfolding fieldsOf wrongLength size fieldsVerdict misplaced recordOf
+returns-2 c = c .refusal2 .ensures ∙ simp (← c .before .before .before .byte-of .ensures, ← c .before .before .wide .ensures .0, ne-eqb _ _ (c .before .if2 .taken))
 
 byte-of-requires-2 : tie.Need-byte-of-requires-2
 byte-of-requires-2 c κs = search needs
 
+untagged-verdict-requires : tie.Need-untagged-verdict-requires
+untagged-verdict-requires c κs = search needs
+
+enum-known-fields : tie.Need-enum-known-fields
+enum-known-fields c = search needs
+
 returns-3 : tie.Need-returns-3
-unfolding fieldsOf wrongLength size outside misplaced recordOf
-returns-3 c = simp (cluster-ranges, cluster-parent, ← c .before .before .before .before .byte-of .ensures, ← c .before .before .before .wide .ensures .0, eq-eqb _ _ (c .before .before .if2 .left), ← c .before .byte-of2 .ensures, lt-ltb _ _ (c .if3 .taken))
+unfolding fieldsOf wrongLength size fieldsVerdict misplaced recordOf
+returns-3 c =
+    let said = c .before .before .before in
+    let order = said .before in
+    let long = order .before in
+    let len = long .before .before in
+    simp (cluster-line-parts, ← len .byte-of .ensures, eq-eqb _ _ (rw (long .before .wide .ensures .0) at (long .if2 .left)), ← order .byte-of2 .ensures, ← said .untagged-verdict .ensures, c .before .fields .given .1)
 
-returns-4 : tie.Need-returns-4
-unfolding fieldsOf wrongLength size outside misplaced recordOf
-returns-4 c = simp (cluster-ranges, cluster-parent, ← c .before .before .before .before .before .byte-of .ensures, ← c .before .before .before .before .wide .ensures .0, eq-eqb _ _ (c .before .before .before .if2 .left), ← c .before .before .byte-of2 .ensures, le-ltb _ _ (c .before .if3 .left), lt-leb 1 _ (c .if4 .taken))
-
-returns-5 : tie.Need-returns-5
-unfolding fieldsOf wrongLength size outside misplaced recordOf
-returns-5 c = simp (cluster-ranges, cluster-parent, ← c .before .before .before .before .before .before .byte-of .ensures, ← c .before .before .before .before .before .wide .ensures .0, eq-eqb _ _ (c .before .before .before .before .if2 .left), ← c .before .before .before .byte-of2 .ensures, le-ltb _ _ (c .before .before .if3 .left), le-leb 1 _ (c .before .if4 .left), lt-leb _ 64 (c .if5 .taken))
+enum-told : tie.Need-enum-told
+enum-told c = search needs
 
 printable-line-requires : tie.Need-printable-line-requires
 printable-line-requires c κs = search needs
 
-returns-6 : tie.Need-returns-6
-unfolding fieldsOf wrongLength size outside misplaced recordOf
-returns-6 c =
-    let line = c .before .before .before .before .before .before .before .before .before .before .before .args .line .now in
-    let len = c .before .before .before .before .before .before .before .before .byte-of .result in
-    let printed : printableTag (tagAt line 4 len) ≡ false = printable-read line len (c .before .before .if5 .left) ∙ sym (c .before .printable-line .ensures) ∙ not-true (c .before .printable-line .result) (c .if6 .taken) in
-    simp (cluster-ranges, cluster-parent, ← c .before .before .before .before .before .before .before .before .byte-of .ensures, ← c .before .before .before .before .before .before .before .wide .ensures .0, eq-eqb _ _ (c .before .before .before .before .before .before .if2 .left), ← c .before .before .before .before .before .byte-of2 .ensures, le-ltb _ _ (c .before .before .before .before .if3 .left), le-leb 1 _ (c .before .before .before .if4 .left), le-leb _ 64 (c .before .before .if5 .left), printed)
+first-unprintable-requires : tie.Need-first-unprintable-requires
+first-unprintable-requires c κs =
+    let told = c .before .before in
+    let fine = sym (told .before .before .untagged-verdict .ensures) ∙ told .enum-told .given .1 in
+    (search needs, tag-length-in _ _ _ fine .1, search needs, sym (c .before .printable-line .ensures) ∙ not-true (c .before .printable-line .result) (c .if3 .taken))
+
+add-t18 : tie.Need-add-t18
+add-t18 c = omega (arith, c .first-unprintable .ensures .below, tag-length-in _ _ _ (sym (c .before .before .before .before .before .untagged-verdict .ensures) ∙ c .before .before .before .enum-told .given .1))
+
+returns-4 : tie.Need-returns-4
+unfolding fieldsOf wrongLength size fieldsVerdict misplaced recordOf
+returns-4 c =
+    let told = c .before .before .before in
+    let said = told .before .before in
+    let order = said .before in
+    let long = order .before in
+    let len = long .before .before in
+    let start = len .before .before .before in
+    let fine = sym (said .untagged-verdict .ensures) ∙ told .enum-told .given .1 in
+    let bad = tag-line-bad (start .args .k) (start .args .line .now) (len .byte-of .result) (tag-length-in _ _ _ fine .1) _ (c .first-unprintable .ensures) in
+    simp (cluster-line-parts, ← len .byte-of .ensures, eq-eqb _ _ (rw (long .before .wide .ensures .0) at (long .if2 .left)), ← order .byte-of2 .ensures, ← said .untagged-verdict .ensures, told .enum-told .given .1, bad)
 
 byte-of-requires-3 : tie.Need-byte-of-requires-3
 byte-of-requires-3 c κs = search needs
@@ -70,39 +94,63 @@ sub-bad-parent c = search needs
 bad-parent-requires : tie.Need-bad-parent-requires
 bad-parent-requires c κs = search needs
 
-returns-7 : tie.Need-returns-7
-unfolding fieldsOf wrongLength size outside misplaced recordOf
-returns-7 c =
-    let line = c .before .before .before .before .before .before .before .before .before .before .before .before .before .before .args .line .now in
-    let len = c .before .before .before .before .before .before .before .before .before .before .before .byte-of .result in
-    let printed : printableTag (tagAt line 4 len) ≡ true = printable-read line len (c .before .before .before .before .before .if5 .left) ∙ sym (c .before .before .before .before .printable-line .ensures) ∙ not-false (c .before .before .before .before .printable-line .result) (c .before .before .before .if6 .left) in
-    simp (cluster-ranges, cluster-parent, ← c .before .before .before .before .before .before .before .before .before .before .before .byte-of .ensures, ← c .before .before .before .before .before .before .before .before .before .before .wide .ensures .0, eq-eqb _ _ (c .before .before .before .before .before .before .before .before .before .if2 .left), ← c .before .before .before .before .before .before .before .before .byte-of2 .ensures, le-ltb _ _ (c .before .before .before .before .before .before .before .if3 .left), le-leb 1 _ (c .before .before .before .before .before .before .if4 .left), le-leb _ 64 (c .before .before .before .before .before .if5 .left), printed, ← c .before .before .byte-of3 .ensures, ← c .before .bad-parent .ensures, c .if7 .taken)
+refusal-requires-3 : tie.Need-refusal-requires-3
+refusal-requires-3 c κs = search needs
 
-returns-8 : tie.Need-returns-8
-unfolding fieldsOf wrongLength size outside misplaced recordOf
-returns-8 c =
-    let line = c .before .before .before .before .before .before .before .before .before .before .before .before .before .before .args .line .now in
-    let len = c .before .before .before .before .before .before .before .before .before .before .before .byte-of .result in
-    let printed : printableTag (tagAt line 4 len) ≡ true = printable-read line len (c .before .before .before .before .before .if5 .left) ∙ sym (c .before .before .before .before .printable-line .ensures) ∙ not-false (c .before .before .before .before .printable-line .result) (c .before .before .before .if6 .left) in
-    simp (cluster-ranges, cluster-parent, ← c .before .before .before .before .before .before .before .before .before .before .before .byte-of .ensures, ← c .before .before .before .before .before .before .before .before .before .before .wide .ensures .0, eq-eqb _ _ (c .before .before .before .before .before .before .before .before .before .if2 .left), ← c .before .before .before .before .before .before .before .before .byte-of2 .ensures, le-ltb _ _ (c .before .before .before .before .before .before .before .if3 .left), le-leb 1 _ (c .before .before .before .before .before .before .if4 .left), le-leb _ 64 (c .before .before .before .before .before .if5 .left), printed, ← c .before .before .byte-of3 .ensures, ← c .before .bad-parent .ensures, c .if7 .left)
+returns-5 : tie.Need-returns-5
+unfolding fieldsOf wrongLength size fieldsVerdict misplaced recordOf
+returns-5 c =
+    let test = c .before in
+    let parent = test .before .before in
+    let printed = parent .before in
+    let told = printed .before .before in
+    let said = told .before .before in
+    let order = said .before in
+    let long = order .before in
+    let len = long .before .before in
+    let start = len .before .before .before in
+    let fine = sym (said .untagged-verdict .ensures) ∙ told .enum-told .given .1 in
+    let good = tag-line-good (start .args .k) (start .args .line .now) (len .byte-of .result) (tag-length-in _ _ _ fine .1) (sym (printed .before .printable-line .ensures) ∙ not-false (printed .before .printable-line .result) (printed .if3 .left)) in
+    c .refusal3 .ensures ∙ simp (cluster-line-parts, ← len .byte-of .ensures, eq-eqb _ _ (rw (long .before .wide .ensures .0) at (long .if2 .left)), ← order .byte-of2 .ensures, ← said .untagged-verdict .ensures, told .enum-told .given .1, good, cluster-parent, ← parent .byte-of3 .ensures, ← test .before .bad-parent .ensures, test .if4 .taken)
+
+returns-6 : tie.Need-returns-6
+unfolding fieldsOf wrongLength size fieldsVerdict misplaced recordOf
+returns-6 c =
+    let parent = c .before .before in
+    let printed = parent .before in
+    let told = printed .before .before in
+    let said = told .before .before in
+    let order = said .before in
+    let long = order .before in
+    let len = long .before .before in
+    let start = len .before .before .before in
+    let fine = sym (said .untagged-verdict .ensures) ∙ told .enum-told .given .1 in
+    let good = tag-line-good (start .args .k) (start .args .line .now) (len .byte-of .result) (tag-length-in _ _ _ fine .1) (sym (printed .before .printable-line .ensures) ∙ not-false (printed .before .printable-line .result) (printed .if3 .left)) in
+    simp (cluster-line-parts, ← len .byte-of .ensures, eq-eqb _ _ (rw (long .before .wide .ensures .0) at (long .if2 .left)), ← order .byte-of2 .ensures, ← said .untagged-verdict .ensures, told .enum-told .given .1, good, cluster-parent, ← parent .byte-of3 .ensures, ← c .before .bad-parent .ensures, c .if4 .left)
 
 pub cluster-line-spec : {M : Type 1} → statement M
 cluster-line-spec =
     tie.close
     (tie.spec
+    refusal-requires
     returns
     byte-of-requires
     wide-requires
     add-if2
+    refusal-requires-2
     returns-2
     byte-of-requires-2
+    untagged-verdict-requires
+    enum-known-fields
     returns-3
-    returns-4
-    returns-5
+    enum-told
     printable-line-requires
-    returns-6
+    first-unprintable-requires
+    add-t18
+    returns-4
     byte-of-requires-3
     sub-bad-parent
     bad-parent-requires
-    returns-7
-    returns-8)
+    refusal-requires-3
+    returns-5
+    returns-6)

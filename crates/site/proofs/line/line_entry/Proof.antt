@@ -25,20 +25,26 @@ module _ (well : tie.Else1) where
 is-malformed-requires : tie.Need-is-malformed-requires
 is-malformed-requires c κs = search needs
 
+refusal-requires : tie.Need-refusal-requires
+refusal-requires c κs = search needs
+
 returns : tie.Need-returns
 returns c =
-    let args = c .before .before .before .before .args in
-    let wrong = sym (c .before .is-malformed .ensures .0) ∙ c .if1 .taken in
-    (sym (entry-malformed (args .k) (args .clusters) (args .flows) _ wrong), λ e. absurd (true≢false (sym wrong ∙ e)))
+    let args = c .before .before .before .before .before .args in
+    let wrong = sym (c .before .before .is-malformed .ensures .0) ∙ c .before .if1 .taken in
+    (c .refusal .ensures ∙ sym (entry-malformed (args .k) (args .clusters) (args .flows) _ wrong), λ e. absurd (true≢false (sym wrong ∙ e)))
 
 due-at-requires : tie.Need-due-at-requires
 due-at-requires c κs = search needs
 
+refusal-requires-2 : tie.Need-refusal-requires-2
+refusal-requires-2 c κs = search needs
+
 returns-2 : tie.Need-returns-2
 returns-2 c =
-    let well = c .before .before in
+    let well = c .before .before .before in
     let args = well .before .before .before .before .args in
-    (sym (entry-none-due (args .k) (args .clusters) (args .flows) _ (formed well) (sym (c .before .due-at .ensures) ∙ c .if2 .taken)), λ e. decoded well)
+    (c .refusal2 .ensures ∙ sym (entry-none-due (args .k) (args .clusters) (args .flows) _ (formed well) (sym (c .before .before .due-at .ensures) ∙ c .before .if2 .taken)), λ e. decoded well)
 
 byte-of-requires : tie.Need-byte-of-requires
 byte-of-requires c κs =
@@ -46,12 +52,15 @@ byte-of-requires c κs =
     let is = well-formed 136 (row well) (formed well) in
     (decoded well, omega (arith, is .some, is .even))
 
+refusal-requires-3 : tie.Need-refusal-requires-3
+refusal-requires-3 c κs = search needs
+
 returns-3 : tie.Need-returns-3
 returns-3 c =
-    let well = c .before .before .before .before .before in
+    let well = c .before .before .before .before .before .before in
     let args = well .before .before .before .before .args in
-    let kind = c .before .before .before .before .due-at .ensures in
-    (sym (entry-other-kind (args .k) (args .clusters) (args .flows) _ (formed well) (λ d. c .before .before .before .if2 .left (kind ∙ d)) (λ b. c .if3 .taken (c .before .byte-of .ensures ∙ b ∙ sym kind))), λ e. decoded well)
+    let kind = c .before .before .before .before .before .due-at .ensures in
+    (c .refusal3 .ensures ∙ sym (entry-other-kind (args .k) (args .clusters) (args .flows) _ (formed well) (λ d. c .before .before .before .before .if2 .left (kind ∙ d)) (λ b. c .before .if3 .taken (c .before .before .byte-of .ensures ∙ b ∙ sym kind))), λ e. decoded well)
 
 header-line-requires : tie.Need-header-line-requires
 header-line-requires c κs = decoded (c .before .before .before .before .before .before .before)
@@ -96,10 +105,13 @@ line-entry-spec =
     tie.close
     (tie.spec
     is-malformed-requires
+    refusal-requires
     returns
     due-at-requires
+    refusal-requires-2
     returns-2
     byte-of-requires
+    refusal-requires-3
     returns-3
     header-line-requires
     returns-4

@@ -1,16 +1,18 @@
 -- `site::line::printable_line` meets its contract. The invariant: `all` says whether the tag bytes before `i` are all from 21 to 7E.
 use mathlib.Core.Path.{_≡_, sym}
+use mathlib.Core.Bool.{not}
 use Prim.Native.Nat.{_+_, _-_, _≤_}
 use native.Mathlib.Omega.{arith}
 use Rattle.hexline.specs.Loops.{every, every-none, every-next}
-use Rattle.hexline.specs.Digits.{between, byteAt}
+use Rattle.hexline.specs.Digits.{byteAt}
+use Rattle.site.specs.Fields.{outside}
 use Rattle.site.specs.Lines.{printableLine}
 use borrow.Author.Needs.{needs}
 use Rattle.site.proofs.line.printable_line.Statement.{statement}
 use Rattle.site.proofs.line.printable_line.Tie as tie
 
 abbrev Inv-loop : tie.InvT-loop
-Inv-loop line bytes len n all₀ i₀ all i = (i ≤ n) × (all ≡ every i (λ k. between 33 126 (byteAt line (4 + k))))
+Inv-loop line bytes len n all₀ i₀ all i = (i ≤ n) × (all ≡ every i (λ k. not (outside 33 126 (byteAt line (4 + k)))))
 
 abbrev μ-loop : tie.MeasureT-loop
 μ-loop line bytes len n all₀ i₀ all i = n - i
