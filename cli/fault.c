@@ -10,24 +10,26 @@
 /* The largest value of a source or a sink is the last cluster, which the header gives. */
 #define LAST_CLUSTER UINT32_MAX
 
-/* A field of a record and its range; the parent, whose refusal is 5, and the tag have none. */
+/* A field of a record: where it begins, and its range. The parent is none: it has a refusal of its own, 5. */
 struct field {
     enum kind kind;
     const char *name;
-    size_t byte, bytes;
+    size_t place, bytes;
     uint32_t least, most;
+    int hexadecimal; /* its numbers are told so: it is a character */
 };
 
 static const struct field fields[] = {
-    {HEADER_LINE, "the version", 1, 1, 1, 1},
-    {HEADER_LINE, "the number of clusters", 2, 1, 1, MOST_CLUSTERS},
-    {HEADER_LINE, "the number of flows", 3, 1, 0, MOST_FLOWS},
-    {CLUSTER_LINE, "the superframe order", 2, 1, 0, 14},
-    {CLUSTER_LINE, "the tag length", 3, 1, 1, MOST_TAG},
-    {FLOW_LINE, "the source", 1, 1, 0, LAST_CLUSTER},
-    {FLOW_LINE, "the sink", 2, 1, 0, LAST_CLUSTER},
-    {FLOW_LINE, "the required period", 3, 4, 1, LONGEST_TIME},
-    {FLOW_LINE, "the deadline", 7, 4, 1, LONGEST_TIME},
+    {HEADER_LINE, "version", 1, 1, 1, 1, 0},
+    {HEADER_LINE, "number of clusters", 2, 1, 1, MOST_CLUSTERS, 0},
+    {HEADER_LINE, "number of flows", 3, 1, 0, MOST_FLOWS, 0},
+    {CLUSTER_LINE, "superframe order", 2, 1, 0, 14, 0},
+    {CLUSTER_LINE, "tag length", 3, 1, 1, MOST_TAG, 0},
+    {CLUSTER_LINE, "tag byte", CLUSTER_BYTES, 1, 0x21, 0x7E, 1},
+    {FLOW_LINE, "source", 1, 1, 0, LAST_CLUSTER, 0},
+    {FLOW_LINE, "sink", 2, 1, 0, LAST_CLUSTER, 0},
+    {FLOW_LINE, "required period", 3, 4, 1, LONGEST_TIME, 0},
+    {FLOW_LINE, "deadline", 7, 4, 1, LONGEST_TIME, 0},
 };
 
 static const char *const kind_names[] = {
@@ -124,41 +126,51 @@ static void wrong_length(struct fault *fault, struct part line)
              at_least, wanted, has);
 }
 
-/* 4 in a tag: its first byte outside 21 to 7E. */
-static void tag_out_of_range(struct fault *fault, struct part line)
+/* The field that begins at a place of a kind of record, or NULL. Each byte of a tag is a field like its first. */
+static const struct field *field_at(enum kind kind, size_t place)
 {
-    size_t k = CLUSTER_BYTES, end = line.length / 2;
-
-    while (k + 1 < end && number_at(line.bytes, k, 1) >= 0x21 && number_at(line.bytes, k, 1) <= 0x7E)
-        k++;
-    fault->column = 2 * k;
-    snprintf(fault->words, sizeof fault->words, "a tag byte is %02X, not 21 to 7E",
-             (unsigned)number_at(line.bytes, k, 1));
+    if (kind == CLUSTER_LINE && place > CLUSTER_BYTES)
+        place = CLUSTER_BYTES;
+    for (size_t i = 0; i < sizeof fields / sizeof fields[0]; i++)
+        if (fields[i].kind == kind && fields[i].place == place)
+            return &fields[i];
+    return NULL;
 }
 
-/* 4: the first field of the record that is outside its range. */
-static void out_of_range(struct fault *fault, struct part text, struct part line, uint32_t line_number)
+/* The range of a field, up to a number, in words. */
+static void tell_range(char *words, size_t size, const struct field *field, uint32_t most)
 {
-    enum kind kind = kind_due(text, line_number);
+    if (field->least == most)
+        snprintf(words, size, "only %u", (unsigned)most);
+    else
+        snprintf(words, size, field->hexadecimal ? "0x%02X to 0x%02X" : "%u to %u", (unsigned)field->least,
+                 (unsigned)most);
+}
 
-    for (size_t i = 0; i < sizeof fields / sizeof fields[0]; i++) {
-        const struct field *field = &fields[i];
-        if (field->kind != kind)
-            continue;
-        uint32_t value = number_at(line.bytes, field->byte, field->bytes);
-        uint32_t most = field->most == LAST_CLUSTER ? clusters_of(text) - 1 : field->most;
-        if (value >= field->least && value <= most)
-            continue;
-        fault->column = 2 * field->byte;
-        if (field->least == most)
-            snprintf(fault->words, sizeof fault->words, "%s is %u, not %u", field->name, (unsigned)value,
-                     (unsigned)most);
-        else
-            snprintf(fault->words, sizeof fault->words, "%s is %u, not %u to %u", field->name, (unsigned)value,
-                     (unsigned)field->least, (unsigned)most);
+/* 10 to 14: the field at the place that the library gives. Nothing is said of a place where no field of the line
+ * begins, or one that is in its range. */
+static void bad_field(struct fault *fault, struct part text, struct part line, uint32_t line_number)
+{
+    size_t place = cartheron_place(text.bytes, text.length);
+    const struct field *field = field_at(kind_due(text, line_number), place);
+    char range[40];
+
+    if (field == NULL || place + field->bytes > line.length / 2)
         return;
-    }
-    tag_out_of_range(fault, line);
+    int of_cluster = field->most == LAST_CLUSTER;
+    uint32_t value = number_at(line.bytes, place, field->bytes);
+    uint32_t most = of_cluster ? clusters_of(text) - 1 : field->most;
+    int below = value < field->least;
+    if (!below && value <= most)
+        return;
+    tell_range(range, sizeof range, field, most);
+    fault->whole = 1;
+    fault->column = 2 * place;
+    snprintf(fault->words, sizeof fault->words,
+             field->hexadecimal ? "line %u, byte %u: %s 0x%02X is %s 0x%02X%s (%s)"
+                                : "line %u, byte %u: %s %u is %s %u%s (%s)",
+             (unsigned)line_number, (unsigned)place, field->name, (unsigned)value, below ? "below" : "above",
+             (unsigned)(below ? field->least : most), of_cluster ? ", the last cluster" : "", range);
 }
 
 /* 5: the parent of the cluster in a line. */
@@ -205,8 +217,12 @@ void find_fault(struct fault *fault, enum cartheron_refusal number, struct part 
     case CARTHERON_WRONG_LENGTH:
         wrong_length(fault, line);
         break;
-    case CARTHERON_OUT_OF_RANGE:
-        out_of_range(fault, text, line, line_number);
+    case CARTHERON_BAD_HEADER:
+    case CARTHERON_BAD_ORDER:
+    case CARTHERON_BAD_TAG:
+    case CARTHERON_NO_CLUSTER:
+    case CARTHERON_BAD_TIME:
+        bad_field(fault, text, line, line_number);
         break;
     case CARTHERON_WRONG_PARENT:
         wrong_parent(fault, line, line_number);

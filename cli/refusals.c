@@ -5,7 +5,11 @@ static const char *const table[] = {
     [CARTHERON_NOT_A_LINE] = "not a line of digits 0-9 and A-F in pairs",
     [CARTHERON_WRONG_KIND] = "not the line that is due",
     [CARTHERON_WRONG_LENGTH] = "the record is not as long as its kind",
-    [CARTHERON_OUT_OF_RANGE] = "a field is outside its range",
+    [CARTHERON_BAD_HEADER] = "the version or a count is outside its range",
+    [CARTHERON_BAD_ORDER] = "the superframe order is outside its range",
+    [CARTHERON_BAD_TAG] = "the tag length or a tag byte is outside its range",
+    [CARTHERON_NO_CLUSTER] = "a flow names a cluster that is not there",
+    [CARTHERON_BAD_TIME] = "the required period or the deadline is outside its range",
     [CARTHERON_WRONG_PARENT] = "the root's parent is not FF, or another's is not a lower number",
     [CARTHERON_TAG_USED] = "an earlier cluster has the same tag",
     [CARTHERON_NO_FIT] = "the active portions fit no beacon interval that the flows' periods permit",
@@ -16,7 +20,9 @@ static const char *const table[] = {
 
 const char *refusal_words(enum cartheron_refusal number)
 {
-    if (number < CARTHERON_NOT_A_LINE || number > CARTHERON_SHORT_ROOM)
+    size_t row = (size_t)number;
+
+    if (row >= sizeof table / sizeof table[0] || table[row] == NULL)
         return "a refusal that this command does not know";
-    return table[number];
+    return table[row];
 }

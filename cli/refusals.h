@@ -4,7 +4,7 @@
 
 #include "cartheron.h"
 
-/* What a refusal says, without a full stop. */
+/* What a refusal says, without a full stop. Any number has its words, also one that is no refusal. */
 const char *refusal_words(enum cartheron_refusal number);
 
 #endif

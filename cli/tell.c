@@ -11,13 +11,26 @@ void print_name(FILE *words, const char *name)
         fputc((unsigned char)*name < 0x20 || *name == 0x7F ? '?' : *name, words);
 }
 
-/* Shows a line with a caret under a column: at most 160 characters, other than printable ones as ?. */
-static void show_line(FILE *words, const struct paint *paint, uint32_t line_number, struct part line, size_t column)
+/* Says what is wrong: the words of the fault where they say all, else the sentence of the number, and what is known
+ * of the fault behind it. */
+static void say(FILE *words, enum cartheron_refusal number, const struct fault *fault)
+{
+    if (fault->whole)
+        fprintf(words, "%s\n", fault->words);
+    else
+        fprintf(words, "%s%s%s\n", refusal_words(number), fault->words[0] != '\0' ? ": " : "", fault->words);
+}
+
+/* Shows a line, at most 160 characters of it, other than printable ones as ?; and a caret under its fault. */
+static void show_line(FILE *words, const struct paint *paint, uint32_t line_number, struct part line,
+                      const struct fault *fault)
 {
     fprintf(words, "%4u|", (unsigned)line_number);
     for (size_t i = 0; i < line.length && i < MOST_SHOWN; i++)
         fputc(line.bytes[i] >= 0x20 && line.bytes[i] <= 0x7E ? line.bytes[i] : '?', words);
-    fprintf(words, "\n    |%*s%s^%s\n", (int)column, "", paint->fault, paint->end);
+    fputc('\n', words);
+    if (fault->words[0] != '\0')
+        fprintf(words, "    |%*s%s^%s\n", (int)fault->column, "", paint->fault, paint->end);
 }
 
 void tell(FILE *words, const struct paint *paint, const char *name, struct part text, uint32_t answer)
@@ -32,10 +45,10 @@ void tell(FILE *words, const struct paint *paint, const char *name, struct part 
         find_fault(&fault, number, text, line_number);
         fprintf(words, ":%u", (unsigned)line_number);
     }
-    fprintf(words, ": %srefused (%d)%s: %s", paint->fault, (int)number, paint->end, refusal_words(number));
-    fprintf(words, line_number != 0 ? ": %s\n" : "%s\n", fault.words);
+    fprintf(words, ": %srefused (%d)%s: ", paint->fault, (int)number, paint->end);
+    say(words, number, &fault);
     if (line_number != 0 && !fault.missing)
-        show_line(words, paint, line_number, line_of(text, line_number), fault.column);
+        show_line(words, paint, line_number, line_of(text, line_number), &fault);
     if (number != CARTHERON_NO_FIT && number != CARTHERON_NO_PLACING)
         return;
     site_of_text(&site, text.bytes, text.length);

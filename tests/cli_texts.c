@@ -1,5 +1,6 @@
 /* Runs the command's functions on the comparison's texts, sound and damaged. What plan and rewrite print has to
- * be what the library answers for the whole text, and a refusal has to be told with its number and its line.
+ * be what the library answers for the whole text, and a refusal has to be told with its number, its line and the
+ * place of its field. Of a line that was taken no fault may be told, whatever number comes with it.
  *   cli_texts [SEED [COUNT [EVERY]]]    seed 1 and 20,000 texts unless given; other commands than plan and rewrite
  *                                       on each text, or on one of so many
  *   cli_texts --json SEED COUNT         prints the accepted texts and what show and site print of them as JSON
@@ -7,6 +8,8 @@
 #define _POSIX_C_SOURCE 200809L
 #include "../cli/answer.h"
 #include "../cli/files.h"
+#include "../cli/refusals.h"
+#include "../cli/tell.h"
 #include "cartheron.h"
 #include "generator.h"
 
@@ -15,7 +18,14 @@
 #include <string.h>
 
 #define LEAST_SEEN 20
-#define REFUSALS 9
+#define HIGHEST_REFUSAL CARTHERON_BAD_TIME
+
+/* What planning may answer in a room that is long enough: 0 for a plan, else the number of a refusal. */
+static const int answers[] = {
+    0, CARTHERON_NOT_A_LINE, CARTHERON_WRONG_KIND, CARTHERON_WRONG_LENGTH, CARTHERON_BAD_HEADER, CARTHERON_BAD_ORDER,
+    CARTHERON_BAD_TAG, CARTHERON_NO_CLUSTER, CARTHERON_BAD_TIME, CARTHERON_WRONG_PARENT, CARTHERON_TAG_USED,
+    CARTHERON_NO_FIT, CARTHERON_NO_PLACING,
+};
 
 static const struct {
     enum command command;
@@ -45,18 +55,29 @@ static void check(bool holds, const char *why)
         give_up(why);
 }
 
-/* Runs a command on the part of the text that it would read, in a heap block of just that length. */
+/* The part of the text that the command would read, in a heap block of just that length. */
+static uint8_t *block_of_text(size_t *length)
+{
+    *length = text.length < MOST_READ ? text.length : MOST_READ;
+    uint8_t *block = malloc(*length > 0 ? *length : 1);
+
+    if (block == NULL)
+        exit(2);
+    memcpy(block, text.bytes, *length);
+    return block;
+}
+
+/* Runs a command on the text. */
 static struct printed run(enum command command, int json, int colour)
 {
-    size_t length = text.length < MOST_READ ? text.length : MOST_READ;
-    uint8_t *block = malloc(length > 0 ? length : 1);
+    size_t length;
+    uint8_t *block = block_of_text(&length);
     struct printed printed = {0};
     FILE *out = open_memstream(&printed.out, &printed.out_length);
     FILE *words = open_memstream(&printed.words, &printed.words_length);
 
-    if (block == NULL || out == NULL || words == NULL)
+    if (out == NULL || words == NULL)
         exit(2);
-    memcpy(block, text.bytes, length);
     struct request request = {command, json, colour, colour, "text", {block, length}};
     printed.status = answer(out, words, &request);
     fclose(out);
@@ -81,6 +102,23 @@ static void check_digits(const uint8_t *line, size_t length, size_t column)
         check(line[i] != '\0' && strchr(digits, line[i]) != NULL, "a character before the caret that is no digit");
     check(column == length || column == 136 || line[column] == '\0' || strchr(digits, line[column]) == NULL,
           "a digit above the caret");
+}
+
+/* Whether a refusal is for a field. */
+static bool names_field(enum cartheron_refusal refusal)
+{
+    return refusal >= CARTHERON_BAD_HEADER && refusal <= CARTHERON_BAD_TIME;
+}
+
+/* A refusal for a field goes on with its line and its place, and the caret stands under the field's first digit. */
+static void check_field(const char *told, uint32_t line, size_t column)
+{
+    char field[64];
+    uint32_t place = cartheron_place(text.bytes, text.length);
+
+    snprintf(field, sizeof field, "line %" PRIu32 ", byte %" PRIu32 ": ", line, place);
+    check(strncmp(told, field, strlen(field)) == 0, "a bad field with another line or place");
+    check(column == 2 * (size_t)place, "a caret that is not under the bad field");
 }
 
 /* A refusal begins with its line and number, and all of it is printable. One at a line that is there ends in
@@ -108,6 +146,36 @@ static void check_words(const struct printed *printed, uint32_t answer)
     check(caret[6 + column] == '^' && column <= shown && column <= 136, "a caret in another place");
     if (CARTHERON_NUMBER(answer) == CARTHERON_NOT_A_LINE)
         check_digits(text.bytes + cartheron_line_start(text.bytes, text.length, line), shown, column);
+    if (names_field(CARTHERON_NUMBER(answer)))
+        check_field(printed->words + strlen(head), line, column);
+}
+
+/* Tells the last line that was taken as if it were refused, for a field or by a number that there is not. All that is
+ * said has to be the sentence of that number, and the line without a caret. */
+static void check_taken_line(uint32_t answer)
+{
+    static const uint32_t numbers[] = {4, 10, 11, 12, 13, 14, 15, 65535};
+    uint32_t wrong = 65536 * numbers[number % (sizeof numbers / sizeof numbers[0])];
+    enum cartheron_refusal refusal = CARTHERON_NUMBER(wrong);
+    const char *sentence = names_field(refusal) ? refusal_words(refusal) : "a refusal that this command does not know";
+    uint32_t line = CARTHERON_REFUSED(answer) && CARTHERON_LINE(answer) != 0 ? CARTHERON_LINE(answer) - 1 : 1;
+    char expected[400], *told = NULL;
+    size_t length, told_length;
+
+    if (line == 0)
+        return;
+    uint8_t *block = block_of_text(&length);
+    FILE *words = open_memstream(&told, &told_length);
+    if (words == NULL)
+        exit(2);
+    tell(words, paint_for(0), "text", (struct part){block, length}, wrong + line);
+    fclose(words);
+    snprintf(expected, sizeof expected, "text:%" PRIu32 ": refused (%d): %s\n%4" PRIu32 "|%.*s\n", line, (int)refusal,
+             sentence, line, (int)cartheron_line_length(block, length, line),
+             (const char *)block + cartheron_line_start(block, length, line));
+    check(strcmp(told, expected) == 0, "more told of a line that was taken than its number says");
+    free(told);
+    free(block);
 }
 
 /* Whether a command prints what the library wrote. */
@@ -146,6 +214,7 @@ static uint32_t check_text(bool all)
         if (all || prints_room(prints[i].command))
             check_print(i, reads_only ? site : plan, reads_only ? site_room : plan_room);
     }
+    check_taken_line(plan);
     struct printed coloured = run(SHOW, 0, 1);
     check(coloured.status == (CARTHERON_REFUSED(plan) ? REFUSED : ANSWERED), "another status with colour");
     forget(&coloured);
@@ -174,9 +243,16 @@ static void make(uint64_t next)
     make_text(&dice, &text);
 }
 
+/* Counts an answer by its number: a length is below 65,536. */
+static void count_answer(uint64_t seen[HIGHEST_REFUSAL + 1], uint32_t answer)
+{
+    check(answer >> 16 <= HIGHEST_REFUSAL, "a refusal that there is not");
+    seen[answer >> 16]++;
+}
+
 int main(int argc, char **argv)
 {
-    uint64_t seen[REFUSALS + 1] = {0};
+    uint64_t seen[HIGHEST_REFUSAL + 1] = {0};
     bool json = argc == 4 && strcmp(argv[1], "--json") == 0;
 
     seed = argc > 1 ? strtoull(argv[json ? 2 : 1], NULL, 10) : 1;
@@ -187,13 +263,13 @@ int main(int argc, char **argv)
         if (json)
             print_json();
         else
-            seen[check_text(next % every == 0) >> 16]++;
+            count_answer(seen, check_text(next % every == 0));
     }
     if (json)
         return 0;
-    for (size_t i = 0; i < REFUSALS; i++)
-        if (seen[i] < LEAST_SEEN && count >= 20000) {
-            printf("cli_texts: answer %zu was seen %" PRIu64 " times\n", i, seen[i]);
+    for (size_t i = 0; i < sizeof answers / sizeof answers[0]; i++)
+        if (seen[answers[i]] < LEAST_SEEN && count >= 20000) {
+            printf("cli_texts: answer %d was seen %" PRIu64 " times\n", answers[i], seen[answers[i]]);
             return 1;
         }
     printf("cli_texts: the command agrees on %" PRIu64 " texts (seed %" PRIu64 "), %" PRIu64 " of them planned\n",

@@ -1,6 +1,6 @@
 #!/bin/sh
-# The man pages have to pass mandoc's and groff's checks without a word, and the plan that cartheron.5 prints
-# has to be that of its site. The example of cartheron.3 is tried by install.sh.
+# The man pages have to pass mandoc's and groff's checks without a word, and the plan and the error line that
+# cartheron.5 prints have to be those of its site. The example of cartheron.3 is tried by install.sh.
 set -eu
 cd "$(dirname "$0")/.."
 . tests/need.sh
@@ -15,10 +15,12 @@ for page in man/cartheron.1 man/cartheron.3 man/cartheron.5; do
 done
 work=$(mktemp -d)
 trap 'rm -rf "$work"' EXIT
-records() { # FIRST DIGIT: the records that cartheron.5 prints and that begin so
-    mandoc -T ascii man/cartheron.5 | grep -oE "^ +$1[0-9A-F]{7,}" | tr -d ' '
+records() { # KIND: the records of this kind, an expression of grep, that cartheron.5 prints
+    mandoc -T ascii man/cartheron.5 | grep -oE "^ +$1[0-9A-F]{6,}" | tr -d ' '
 }
-records 0 >"$work/site"
-records 8 >"$work/plan"
+records '0[123]' >"$work/site"
+records '8[12]' >"$work/plan"
+records 8F >"$work/error"
 bin/plan "$work/site" | cmp - "$work/plan"
-echo "pages: clean, and the example's plan is right"
+sed '3s/^020000/02000F/' "$work/site" | bin/plan | cmp - "$work/error"
+echo "pages: clean, and the example's plan and error line are right"
