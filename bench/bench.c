@@ -65,7 +65,8 @@ static double median(double *numbers, size_t count)
     return numbers[count / 2];
 }
 
-/* Ends the program where the two functions differ in their answer or in a byte of their rooms. */
+/* Ends the program where the two functions differ in their answer or in a byte of their rooms, or the two sides in
+ * the place of a bad field. */
 static void agree(const struct duel *duel, const struct site *site)
 {
     memset(room, '.', sizeof room);
@@ -75,6 +76,13 @@ static void agree(const struct duel *duel, const struct site *site)
     if (ours != plain || memcmp(room, other_room, sizeof room) != 0) {
         printf("FAILED: %s: the library answers %u, the plain C %u, or their rooms differ\n", site->name,
                (unsigned)ours, (unsigned)plain);
+        exit(1);
+    }
+    ours = cartheron_place(site->text, site->length);
+    plain = plain_place(site->text, site->length);
+    if (ours != plain) {
+        printf("FAILED: %s: the library gives the place %u, the plain C %u\n", site->name, (unsigned)ours,
+               (unsigned)plain);
         exit(1);
     }
 }

@@ -1,6 +1,6 @@
 /* The reader. Each line is first taken for the one that is due: its length is then known before its end is
  * looked for, and one test at the end of each line says whether all was as it should be. Only a line that was
- * not is looked at again, to find the number of its refusal. */
+ * not is looked at again, to find the number of its refusal and the place of its first bad field. */
 #include "plain.h"
 
 #include <stdbool.h>
@@ -128,14 +128,46 @@ static unsigned digit_value(uint8_t character)
     return character >= 'A' && character <= 'F' ? character - 'A' + 10u : 16;
 }
 
-/* The refusal of a line at which the reading stopped, where a kind was due; the text ends at `end`. What the
- * tests here leave over is what the reading alone can have stopped for. */
-static uint32_t refused(const uint8_t *at, const uint8_t *end, size_t line, unsigned due, size_t number)
+/* The number of four bytes, the high byte first. */
+static uint32_t time_of(const uint8_t *bytes)
+{
+    return (uint32_t)bytes[0] << 24 | (uint32_t)bytes[1] << 16 | (uint32_t)bytes[2] << 8 | bytes[3];
+}
+
+/* The refusal of a record of the right kind and length at which the reading stopped, and its place into the site.
+ * What the tests here leave over is what the reading alone can have stopped for. */
+static unsigned refused_record(const uint8_t *bytes, size_t length, size_t line, struct plain_site *site)
+{
+    if (bytes[0] == HEADER) {
+        site->place = bytes[1] != 1 ? 1 : bytes[2] - 1u >= MOST_CLUSTERS ? 2 : 3;
+        return BAD_HEADER;
+    }
+    if (bytes[0] == FLOW) {
+        bool no_source = bytes[1] >= site->clusters, no_sink = bytes[2] >= site->clusters;
+        site->place = no_source ? 1 : no_sink ? 2 : time_of(bytes + 3) - 1 >= LONGEST_TIME ? 3 : 7;
+        return no_source || no_sink ? NO_CLUSTER : BAD_TIME;
+    }
+    if (bytes[2] > LARGEST_ORDER) {
+        site->place = 2;
+        return BAD_ORDER;
+    }
+    for (size_t i = 3; i < length; i++)
+        if (i == 3 ? bytes[3] == 0 : bytes[i] < 0x21 || bytes[i] > 0x7E) {
+            site->place = (uint8_t)i;
+            return BAD_TAG;
+        }
+    return (line == 2 ? bytes[1] != NO_PARENT : bytes[1] >= line - 2) ? WRONG_PARENT : TAG_USED;
+}
+
+/* The refusal of a line at which the reading stopped, where a kind was due; the text ends at `end`. Its place goes
+ * into the site. */
+static uint32_t refused(const uint8_t *at, const uint8_t *end, size_t line, unsigned due, struct plain_site *site)
 {
     uint8_t bytes[MOST_DIGITS / 2] = {0};
     size_t length, left = (size_t)(end - at);
     unsigned wrong = 0;
 
+    site->place = NO_PLACE;
     if (left == 0)
         return plain_refuse(WRONG_KIND, line);
     const uint8_t *lf = memchr(at, '\n', left <= MOST_DIGITS ? left : MOST_DIGITS + 1);
@@ -153,14 +185,7 @@ static uint32_t refused(const uint8_t *at, const uint8_t *end, size_t line, unsi
         return plain_refuse(WRONG_KIND, line);
     if (due == CLUSTER ? length < 4 || length != 4u + bytes[3] : length != (due == HEADER ? 4u : 11u))
         return plain_refuse(WRONG_LENGTH, line);
-    if (due != CLUSTER || bytes[2] > LARGEST_ORDER || length == 4)
-        return plain_refuse(OUT_OF_RANGE, line);
-    for (size_t i = 4; i < length; i++)
-        if (bytes[i] < 0x21 || bytes[i] > 0x7E)
-            return plain_refuse(OUT_OF_RANGE, line);
-    if (number == 0 ? bytes[1] != NO_PARENT : bytes[1] >= number)
-        return plain_refuse(WRONG_PARENT, line);
-    return plain_refuse(TAG_USED, line);
+    return plain_refuse(refused_record(bytes, length, line, site), line);
 }
 
 /* Takes a cluster's line. Returns the place behind it, or NULL if the line is refused. */
@@ -230,11 +255,13 @@ static inline bool take_header(const uint8_t *text, size_t text_len, struct plai
 
 uint32_t plain_read(const uint8_t *text, size_t text_len, struct plain_site *site)
 {
-    if (text_len == 0)
+    if (text_len == 0) {
+        site->place = NO_PLACE;
         return plain_refuse(WRONG_KIND, 1);
+    }
     const uint8_t *end = text + text_len;
     if (!take_header(text, text_len, site))
-        return refused(text, end, 1, HEADER, 0);
+        return refused(text, end, 1, HEADER, site);
     struct reading reading;
     reading.text = text;
     reading.end = end;
@@ -242,12 +269,19 @@ uint32_t plain_read(const uint8_t *text, size_t text_len, struct plain_site *sit
     for (size_t c = 0; c < site->clusters; c++) {
         const uint8_t *next = take_cluster(&reading, at, c, site);
         if (next == NULL)
-            return refused(at, end, 2 + c, CLUSTER, c);
+            return refused(at, end, 2 + c, CLUSTER, site);
         at = next;
     }
     for (size_t f = 0; f < site->flows; f++, at += FLOW_DIGITS + 1)
         if (!take_flow(at, end, f, site))
-            return refused(at, end, 2 + site->clusters + f, FLOW, f);
+            return refused(at, end, 2 + site->clusters + f, FLOW, site);
     site->shortest /= BASE;
-    return at == end ? 0 : refused(at, end, 2 + site->clusters + site->flows, NOTHING, 0);
+    return at == end ? 0 : refused(at, end, 2 + site->clusters + site->flows, NOTHING, site);
+}
+
+uint32_t plain_place(const uint8_t *text, size_t text_len)
+{
+    struct plain_site site;
+
+    return plain_read(text, text_len, &site) != 0 ? site.place : NO_PLACE;
 }

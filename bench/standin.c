@@ -11,3 +11,8 @@ uint32_t cartheron_rewrite(const uint8_t *text, size_t text_len, uint8_t *room, 
 {
     return reference_rewrite(text, text_len, room, room_len);
 }
+
+uint32_t cartheron_place(const uint8_t *text, size_t text_len)
+{
+    return reference_place(text, text_len);
+}

@@ -3,7 +3,8 @@
  *     commission <SITE
  *
  * Exit status 0 for a plan, 1 for a refusal, 2 for anything else. A refusal goes to standard error by its number and
- * line (enum cartheron_refusal), with the line itself. The command cartheron has the words and much more.
+ * line (enum cartheron_refusal) and the place of a bad field, with the line itself. The command cartheron has the
+ * words and much more.
  */
 #include <stdio.h>
 #include "cartheron.h"
@@ -36,7 +37,11 @@ int main(void)
     /* In a room of CARTHERON_LONGEST_PLAN bytes every plan fits: refusal 9 cannot come back. */
     uint32_t answer = cartheron_plan(text, length, plan, sizeof plan);
     if (CARTHERON_REFUSED(answer)) {
-        fprintf(stderr, "refused (%d) at line %u: ", (int)CARTHERON_NUMBER(answer), (unsigned)CARTHERON_LINE(answer));
+        unsigned place = cartheron_place(text, length);
+        fprintf(stderr, "refused (%d) at line %u", (int)CARTHERON_NUMBER(answer), (unsigned)CARTHERON_LINE(answer));
+        if (place != CARTHERON_NO_PLACE)
+            fprintf(stderr, ", for the field at byte %u of the record", place);
+        fputs(": ", stderr);
         show_line(text, length, CARTHERON_LINE(answer));
         return REFUSED;
     }

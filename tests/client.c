@@ -1,6 +1,6 @@
 /* The commissioning tool's view: calls every function of cartheron.h over texts whose answers
- * docs/FORMATS.md gives, and measures the stack that planning and rewriting the largest site take. Prints a line for
- * each check that fails, then how many passed and failed. */
+ * docs/FORMATS.md gives, and measures the stack that planning and rewriting the largest site and finding the place of
+ * its bad field take. Prints a line for each check that fails, then how many passed and failed. */
 #define _GNU_SOURCE
 #include <pthread.h>
 #include <stdio.h>
@@ -65,12 +65,28 @@ static void plans(const char *what, const char *text, const char *plan)
     writes(what, cartheron_plan, text, sizeof memory, plan);
 }
 
-static void refuses(const char *what, const char *text, enum cartheron_refusal number, uint32_t line)
+/* The place of the bad field of a text has to be this one. */
+static void has_place(const char *what, const char *text, uint32_t place)
 {
-    declines(what, cartheron_plan, text, sizeof memory, number, line);
+    check(cartheron_place((const uint8_t *)text, strlen(text)) == place, what);
 }
 
-#define CHAIN "02FF000141\n0200000142\n0201000143\n"
+/* Planning in all of the memory; the refusal is for the field at a place. */
+static void refuses_field(const char *what, const char *text, enum cartheron_refusal number, uint32_t line,
+                          uint32_t place)
+{
+    declines(what, cartheron_plan, text, sizeof memory, number, line);
+    has_place(what, text, place);
+}
+
+/* The same; the refusal names no field. */
+static void refuses(const char *what, const char *text, enum cartheron_refusal number, uint32_t line)
+{
+    refuses_field(what, text, number, line, CARTHERON_NO_PLACE);
+}
+
+#define ROOT "02FF000141\n"
+#define CHAIN ROOT "0200000142\n0201000143\n"
 static const char P3[] = "01010301\n" CHAIN "03020000000F0000000F00\n";
 static const char P3_plan[] =
     "81010203\n820200000000000003C00143\n8201000003C0000003C00142\n820000000780000003C00141\n";
@@ -91,9 +107,34 @@ static void answers(void)
     refuses("the same without LF", "01010100", CARTHERON_NOT_A_LINE, 1);
     refuses("the empty text", "", CARTHERON_WRONG_KIND, 1);
     refuses("a tag used twice", "01010200\n02FF000141\n0200000141\n", CARTHERON_TAG_USED, 3);
-    refuses("an order above 14", "01010100\n02FF0F0141\n", CARTHERON_OUT_OF_RANGE, 2);
     refuses("a parent that is not lower", "01010200\n02FF000141\n0201000142\n", CARTHERON_WRONG_PARENT, 3);
     refuses("a record too long", "01010100\n02FF00014141\n", CARTHERON_WRONG_LENGTH, 2);
+}
+
+/* Each field outside its range, and lines with two faults. */
+static void places(void)
+{
+    refuses_field("another version", "01020100\n" ROOT, CARTHERON_BAD_HEADER, 1, 1);
+    refuses_field("no clusters", "01010000\n", CARTHERON_BAD_HEADER, 1, 2);
+    refuses_field("65 clusters and 129 flows", "01014181\n", CARTHERON_BAD_HEADER, 1, 2);
+    refuses_field("129 flows", "01010181\n", CARTHERON_BAD_HEADER, 1, 3);
+    refuses_field("another version and no clusters", "01020000\n", CARTHERON_BAD_HEADER, 1, 1);
+    refuses_field("an order above 14", "01010200\n" ROOT "02000F0142\n", CARTHERON_BAD_ORDER, 3, 2);
+    refuses_field("an order above 14 and a wrong parent", "01010200\n" ROOT "02010F0142\n", CARTHERON_BAD_ORDER, 3, 2);
+    refuses_field("an order above 14 and a tag used twice", "01010200\n" ROOT "02000F0141\n", CARTHERON_BAD_ORDER, 3, 2);
+    refuses_field("an order above 14 and a blank", "01010100\n02FF0F0120\n", CARTHERON_BAD_ORDER, 2, 2);
+    refuses_field("a tag length of 0", "01010100\n02FF0000\n", CARTHERON_BAD_TAG, 2, 3);
+    refuses_field("a blank in a tag", "01010100\n02FF0003412043\n", CARTHERON_BAD_TAG, 2, 5);
+    refuses_field("two bad bytes in a tag", "01010100\n02FF0003417F20\n", CARTHERON_BAD_TAG, 2, 5);
+    refuses_field("a source that is not there", "01010101\n" ROOT "0301000000078000000780\n", CARTHERON_NO_CLUSTER, 3, 1);
+    refuses_field("a sink that is not there", "01010101\n" ROOT "0300010000078000000780\n", CARTHERON_NO_CLUSTER, 3, 2);
+    refuses_field("a sink that is not there and no period", "01010101\n" ROOT "0300010000000000000780\n",
+                  CARTHERON_NO_CLUSTER, 3, 2);
+    refuses_field("a period of 0", "01010101\n" ROOT "0300000000000000000780\n", CARTHERON_BAD_TIME, 3, 3);
+    refuses_field("a deadline of 0", "01010101\n" ROOT "0300000000078000000000\n", CARTHERON_BAD_TIME, 3, 7);
+    refuses_field("a period and a deadline of 0", "01010101\n" ROOT "0300000000000000000000\n", CARTHERON_BAD_TIME, 3, 3);
+    has_place("P3, which has a plan", P3, CARTHERON_NO_PLACE);
+    check(cartheron_place(NULL, 0) == CARTHERON_NO_PLACE, "the place for no text, by a null pointer");
 }
 
 /* Rooms around the length of the plan, and rooms of no bytes at all. */
@@ -193,6 +234,12 @@ static void *rewriting(void *nothing)
     return nothing;
 }
 
+static void *finding_the_place(void *nothing)
+{
+    answer = cartheron_place((const uint8_t *)site, site_len);
+    return nothing;
+}
+
 static void *idle(void *nothing)
 {
     return nothing;
@@ -224,6 +271,7 @@ static size_t stack_of(void *(*work)(void *))
 int main(void)
 {
     answers();
+    places();
     rooms_for_plans();
     rooms_for_sites();
     null_pointers();
@@ -242,6 +290,11 @@ int main(void)
     check(answer == site_len && holds(site), "the largest site written back on a painted stack");
     check(used <= 16 * 1024, "the stack under cartheron_rewrite is at most 16 KiB");
     printf("stack under cartheron_rewrite: %zu bytes\n", used);
+    memset(site + site_len - 9, '0', 8);
+    used = stack_of(finding_the_place) - unused;
+    check(answer == 7, "the largest site, its last deadline 0: the place on a painted stack");
+    check(used <= 16 * 1024, "the stack under cartheron_place is at most 16 KiB");
+    printf("stack under cartheron_place: %zu bytes\n", used);
     printf("client: %d passed, %d failed\n", passed, failed);
     return failed != 0;
 }

@@ -31,6 +31,11 @@ run a-folder <sites
 sed '3s/^02/0g/' sites/pump-hall.site | run other-character
 { head -n 3 sites/pump-hall.site && printf '02\0001\033\n'; } | run odd-bytes
 head -n 9 sites/pump-hall.site | run missing-line
+sed '1s/^0101/0102/' sites/pump-hall.site | run bad-version
+sed '3s/^020000/02000F/' sites/pump-hall.site | run bad-order
+sed '3s/4E4F/204F/' sites/pump-hall.site | run bad-tag-byte
+sed '$s/^03..../030008/' sites/pump-hall.site | run no-such-sink
+sed '$s/........$/00000000/' sites/pump-hall.site | run bad-deadline
 run empty-text </dev/null
 run endless </dev/zero
 

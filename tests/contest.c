@@ -94,6 +94,24 @@ void compare_null(struct contest *contest, const struct trio *trio)
     }
 }
 
+void compare_place(const struct contest *contest, uint32_t answer)
+{
+    const uint8_t *text = contest->text.length > 0 ? contest->text.bytes : NULL;
+    uint32_t product = cartheron_place(text, contest->text.length);
+    uint32_t reference = reference_place(text, contest->text.length);
+    uint32_t plain = plain_place(text, contest->text.length);
+    bool has_place = answer >> 16 >= CARTHERON_BAD_HEADER && answer >> 16 <= CARTHERON_BAD_TIME;
+
+    if (product != reference || plain != reference || has_place != (reference != CARTHERON_NO_PLACE)) {
+        report(contest, "the places of a bad field are not the same, or one is not due");
+        print_answer("answer   ", answer);
+        printf("library  : place %" PRIu32 "\n", product);
+        printf("reference: place %" PRIu32 "\n", reference);
+        printf("plain C  : place %" PRIu32 "\n", plain);
+        exit(1);
+    }
+}
+
 void count_answer(struct tally *tally, uint32_t answer)
 {
     if (CARTHERON_REFUSED(answer))

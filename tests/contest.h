@@ -1,5 +1,5 @@
 /* One case of the differential test, and its comparison: the library, the plain C of tests/reference and that of
- * bench/plain.h have to give the same numbers and the same rooms. */
+ * bench/plain.h have to give the same numbers, places and rooms. */
 #ifndef CONTEST_H
 #define CONTEST_H
 
@@ -8,7 +8,7 @@
 
 #define GUARD 32
 #define LONGEST_ROOM (CARTHERON_LONGEST_SITE + 64)
-#define REFUSALS 9
+#define HIGHEST_REFUSAL 14
 
 typedef uint32_t writer(const uint8_t *text, size_t text_len, uint8_t *room, size_t room_len);
 
@@ -22,7 +22,7 @@ struct trio {
 
 /* What a run has seen. */
 struct tally {
-    uint64_t refusal[REFUSALS + 1];
+    uint64_t refusal[HIGHEST_REFUSAL + 1];
     uint64_t planned;
     uint64_t brute;
     uint64_t tight;
@@ -56,6 +56,10 @@ void count_answer(struct tally *tally, uint32_t answer);
 /* Runs the three functions on rooms of this length with the same pattern in and around them. Their numbers
  * and all bytes must agree, and those behind the answer must be as they were. Returns the answer. */
 uint32_t compare(struct contest *contest, const struct trio *trio, size_t room_len);
+
+/* Compares the place that the three give for the text, which has to be one exactly where the answer of rewriting
+ * it is a refusal by 10 to 14. */
+void compare_place(const struct contest *contest, uint32_t answer);
 
 /* Compares the three with no room at all, and with no text where it is empty. */
 void compare_null(struct contest *contest, const struct trio *trio);

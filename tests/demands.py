@@ -7,9 +7,10 @@ The input is a sequence of cases. A case is a head line in hexadecimal (text len
 text, room for a plan, line asked for, number of patches), the site text, an LF, and for each patch of the
 records a line (kind, index, place, value); the kinds are the places in FIELDS. The program reads the text,
 shows its parts for the line asked for and for the line of the refusal, plans the text as the commissioning
-and as the survey tool, and writes it back. Then it patches the records that reading gave, plans them,
-writes them, and takes them there and back. Each room is the start of a space of '.', and after each answer
-stands how many bytes of the space changed.
+and as the survey tool, writes it back, and asks for the place of its bad field. Then it patches the records
+that reading gave, plans them, writes them, and takes them there and back. Each room is the start of a space
+of '.', and after each answer stands how many bytes of the space changed. A refusal is printed as `plan` does:
+8F, its number, its line in two bytes, and its place.
 """
 
 import struct
@@ -65,6 +66,7 @@ class Answers:
     read: object         # the reader's refusal, or the two counts
     commissioned: tuple  # the number, and the bytes that were written
     rewritten: tuple     # the same
+    place: int           # of the bad field
     planned: object      # the planner's refusal, or the plan text
     written: object      # the writer's refusal, or the text
     back: object         # the writer's refusal, or the two counts that reading its text gives
@@ -94,18 +96,22 @@ def answers(case):
     written = reference.write(records, case.room)
     back = written if isinstance(written, tuple) else refusal_or_counts(reference.read(written))
     return Answers(refusal_or_counts(site), planning.plan(case.text, case.plan_room), number_of(rewritten),
-                   planning.plan_records(records, case.plan_room), written, back)
+                   reference.place(case.text), planning.plan_records(records, case.plan_room), written, back)
+
+
+def refusal_printed(number, line, place):
+    return hex_line("BBHB", 0x8F, number, line, place)
 
 
 def counts_printed(answer):
     """A refusal, or 80 and the two counts."""
-    return hex_line("BBH", 0x8F, *answer) if isinstance(answer, tuple) else hex_line("BBB", 0x80, *answer)
+    return refusal_printed(*answer) if isinstance(answer, tuple) else hex_line("BBB", 0x80, *answer)
 
 
 def text_printed(answer, *order):
     """A refusal, or 80, the length, the order of a plan and the text; and how many bytes changed."""
     if isinstance(answer, tuple):
-        return hex_line("BBH", 0x8F, *answer) + hex_line("I", 0)
+        return refusal_printed(*answer) + hex_line("I", 0)
     head = hex_line("BI" + "B" * len(order), 0x80, len(answer), *order)
     return head + answer + hex_line("I", len(answer))
 
@@ -114,8 +120,8 @@ def line_printed(case, counts):
     """Of the line asked for by itself, ended, after a header of these counts: its refusal, or 80."""
     site = reference.Site()
     site.cluster_count, site.flow_count = counts
-    number = reference.take(site, max(1, case.line), reference.shown(case.text, case.line), True)
-    return hex_line("BBH", 0x8F, number, case.line % 65_536) if number else hex_line("B", 0x80)
+    fault = reference.take(site, max(1, case.line), reference.shown(case.text, case.line), True)
+    return refusal_printed(*reference.at_line(case.line % 65_536, fault)) if fault else hex_line("B", 0x80)
 
 
 def expected_output(case):
@@ -127,6 +133,7 @@ def expected_output(case):
     printed += line_printed(case, (0, 0) if isinstance(given.read, tuple) else given.read)
     for number, written in given.commissioned, given.commissioned, given.rewritten:
         printed += hex_line("II", number, len(written))
+    printed += hex_line("I", given.place)
     order = () if isinstance(given.planned, tuple) else (int(given.planned[4:6], 16),)
     printed += text_printed(given.planned, *order) + text_printed(given.written)
     changed = 0 if isinstance(given.written, tuple) else len(given.written)

@@ -14,7 +14,17 @@
 
 #define DEFAULT_SEED 1
 #define DEFAULT_COUNT 200000
+/* From so many cases on each refusal has to be seen so many times. */
+#define ENOUGH 40000
 #define LEAST_SEEN 100
+
+/* The refusals in the order in which they are tested. */
+static const enum cartheron_refusal refusals[] = {
+    CARTHERON_NOT_A_LINE, CARTHERON_WRONG_KIND, CARTHERON_WRONG_LENGTH,
+    CARTHERON_BAD_HEADER, CARTHERON_BAD_ORDER, CARTHERON_BAD_TAG, CARTHERON_NO_CLUSTER, CARTHERON_BAD_TIME,
+    CARTHERON_WRONG_PARENT, CARTHERON_TAG_USED,
+    CARTHERON_NO_FIT, CARTHERON_NO_PLACING, CARTHERON_SHORT_ROOM,
+};
 
 /* Reports what is wrong and ends the run. */
 static _Noreturn void give_up(const struct contest *contest, const char *words)
@@ -136,7 +146,9 @@ static uint32_t run_case(struct contest *contest, uint64_t number)
     check_placing(contest, answer);
     compare_rooms(contest, &plan, answer);
     compare_null(contest, &plan);
-    compare_rooms(contest, &rewrite, compare(contest, &rewrite, LONGEST_ROOM));
+    uint32_t rewritten = compare(contest, &rewrite, LONGEST_ROOM);
+    compare_place(contest, rewritten);
+    compare_rooms(contest, &rewrite, rewritten);
     compare_null(contest, &rewrite);
     compare_lines(contest, answer);
     return answer;
@@ -147,9 +159,10 @@ static bool print_tally(const struct tally *tally)
 {
     bool enough = tally->tight >= LEAST_SEEN;
 
-    for (size_t i = 1; i <= REFUSALS; i++) {
-        printf("refusal %zu seen %" PRIu64 " times\n", i, tally->refusal[i]);
-        enough = enough && tally->refusal[i] >= LEAST_SEEN;
+    for (size_t i = 0; i < sizeof refusals / sizeof refusals[0]; i++) {
+        uint64_t seen = tally->refusal[refusals[i]];
+        printf("refusal %d seen %" PRIu64 " times\n", (int)refusals[i], seen);
+        enough = enough && seen >= LEAST_SEEN;
     }
     printf("%" PRIu64 " planned, %" PRIu64 " of these at a lower order than the largest that fits\n",
            tally->planned, tally->tight);
@@ -187,7 +200,7 @@ int main(int argc, char **argv)
     uint64_t count = argc > 2 ? number_in(argv[2]) : DEFAULT_COUNT;
     for (uint64_t number = 0; number < count; number++)
         run_case(&contest, number);
-    if (!print_tally(&tally) && count >= DEFAULT_COUNT) {
+    if (!print_tally(&tally) && count >= ENOUGH) {
         printf("differential: a refusal or the search of orders was seen less than %d times\n", LEAST_SEEN);
         return 1;
     }

@@ -86,6 +86,13 @@ static uint32_t compare_rooms(writer *product, writer *reference, const uint8_t 
     return answer;
 }
 
+/* Compares the place of a bad field. */
+static void compare_place(const uint8_t *text, size_t size)
+{
+    if (cartheron_place(text, size) != reference_place(text, size))
+        give_up("another place", cartheron_place(text, size), reference_place(text, size));
+}
+
 /* Compares the part shown for a line. */
 static void compare_line(const uint8_t *text, size_t size, size_t line)
 {
@@ -110,6 +117,7 @@ int LLVMFuzzerTestOneInput(const uint8_t *data, size_t size)
     }
     uint32_t answer = compare_rooms(cartheron_plan, reference_plan, text, size);
     compare_rooms(cartheron_rewrite, reference_rewrite, text, size);
+    compare_place(text, size);
     const size_t lines[] = {0, 1, CARTHERON_LINE(answer), last, last + 1, last + 2, SIZE_MAX};
     for (size_t i = 0; i < sizeof lines / sizeof lines[0]; i++)
         compare_line(text, size, lines[i]);

@@ -1,4 +1,4 @@
-/* Every kind of damage that refusals 1 to 6 of docs/FORMATS.md name, to the records and to the text. */
+/* Every kind of damage that the refusals of a line in docs/FORMATS.md name, to the records and to the text. */
 #include "generator.h"
 
 #include <string.h>
@@ -34,11 +34,10 @@ static struct draft_line *any_line(struct dice *dice, struct draft *draft)
     return line_at(draft, pick(dice, draft->lines));
 }
 
-/* The line of a cluster; its number goes to *number. */
-static struct draft_line *cluster_line(struct dice *dice, struct draft *draft, size_t *number)
+/* The line of a cluster. */
+static struct draft_line *cluster_line(struct draft *draft, size_t number)
 {
-    *number = pick(dice, draft->clusters);
-    return line_at(draft, 1 + *number);
+    return line_at(draft, 1 + number);
 }
 
 /* The line of a flow, or the last line if there is none. */
@@ -93,11 +92,10 @@ static void drop_line(struct dice *dice, struct draft *draft)
 static void damage_length(struct dice *dice, struct draft *draft)
 {
     static const uint8_t lengths[] = {1, 2, 3, 4, 5, 10, 11, 12, 68, 69, 70, DRAFT_BYTES};
-    size_t number;
     struct draft_line *line = any_line(dice, draft);
 
     switch (below(dice, 3)) {
-    case 0: line = cluster_line(dice, draft, &number); break;
+    case 0: line = cluster_line(draft, pick(dice, draft->clusters)); break;
     case 1: line = flow_line(dice, draft); break;
     }
     switch (below(dice, 3)) {
@@ -107,12 +105,42 @@ static void damage_length(struct dice *dice, struct draft *draft)
     }
 }
 
+/* How many faults go into one line: mostly one, but often two. */
+static size_t some_faults(struct dice *dice)
+{
+    return once_in(dice, 3) ? 2 : 1;
+}
+
+/* A version or a count out of its range, or a count that is not that of the lines; often two of them. */
+static void damage_header(struct dice *dice, struct draft *draft)
+{
+    static const uint8_t versions[] = {0x00, 0x02, 0x81, 0xFF};
+    static const uint8_t clusters[] = {0, 1, 64, 65, 0x80, 0xFF};
+    static const uint8_t flows[] = {0, 1, 128, 129, 0xFF};
+    uint8_t *bytes = draft->line[0].bytes;
+
+    for (size_t faults = some_faults(dice); faults > 0; faults--)
+        switch (below(dice, 5)) {
+        case 0: bytes[1] = one_of(dice, versions, sizeof versions); break;
+        case 1: bytes[2] = one_of(dice, clusters, sizeof clusters); break;
+        case 2: bytes[3] = one_of(dice, flows, sizeof flows); break;
+        case 3: bytes[2] = (uint8_t)(bytes[2] + 2 * below(dice, 2) - 1); break;
+        default: bytes[3] = (uint8_t)(bytes[3] + 2 * below(dice, 2) - 1); break;
+        }
+}
+
+/* A superframe order at the edge of its range or outside. */
+static void damage_order(struct dice *dice, struct draft_line *line)
+{
+    static const uint8_t orders[] = {14, 15, 16, 0x80, 0xFF};
+
+    line->bytes[2] = one_of(dice, orders, sizeof orders);
+}
+
 /* A tag length of 0 or over 64, with as many tag bytes as it says or not. */
-static void damage_tag_length(struct dice *dice, struct draft *draft)
+static void damage_tag_length(struct dice *dice, struct draft_line *line)
 {
     static const uint8_t lengths[] = {0, 0, 1, 63, 64, 65, 66, 76, 0x80, 0xFF};
-    size_t number;
-    struct draft_line *line = cluster_line(dice, draft, &number);
     uint8_t length = one_of(dice, lengths, sizeof lengths);
 
     line->bytes[3] = length;
@@ -123,71 +151,18 @@ static void damage_tag_length(struct dice *dice, struct draft *draft)
     line->length = (size_t)length + 4;
 }
 
-/* A version or a count out of its range, or a count that is not that of the lines. */
-static void damage_header(struct dice *dice, struct draft *draft)
+/* A tag byte at the edge of its range or outside. */
+static void damage_tag_byte(struct dice *dice, struct draft_line *line)
 {
-    static const uint8_t versions[] = {0x00, 0x02, 0x81, 0xFF};
-    static const uint8_t clusters[] = {0, 1, 64, 65, 0x80, 0xFF};
-    static const uint8_t flows[] = {0, 1, 128, 129, 0xFF};
-    uint8_t *bytes = draft->line[0].bytes;
-
-    switch (below(dice, 5)) {
-    case 0: bytes[1] = one_of(dice, versions, sizeof versions); break;
-    case 1: bytes[2] = one_of(dice, clusters, sizeof clusters); break;
-    case 2: bytes[3] = one_of(dice, flows, sizeof flows); break;
-    case 3: bytes[2] = (uint8_t)(bytes[2] + 2 * below(dice, 2) - 1); break;
-    default: bytes[3] = (uint8_t)(bytes[3] + 2 * below(dice, 2) - 1); break;
-    }
-}
-
-/* A superframe order or a tag byte at the edge of its range or outside. */
-static void damage_cluster(struct dice *dice, struct draft *draft)
-{
-    static const uint8_t orders[] = {14, 15, 16, 0x80, 0xFF};
     static const uint8_t tag_bytes[] = {0x00, 0x1F, 0x20, 0x21, 0x7E, 0x7F, 0x80, 0xFF};
-    size_t number;
-    struct draft_line *line = cluster_line(dice, draft, &number);
 
-    if (once_in(dice, 2) || line->length < 5) {
-        line->bytes[2] = one_of(dice, orders, sizeof orders);
-    } else {
-        size_t place = 4 + pick(dice, line->length - 4);
-        line->bytes[place] = one_of(dice, tag_bytes, sizeof tag_bytes);
-    }
-}
-
-/* A flow that names a cluster that is not there, or one more that is. */
-static void damage_end(struct dice *dice, struct draft *draft)
-{
-    struct draft_line *line = flow_line(dice, draft);
-    uint8_t *end = &line->bytes[1 + below(dice, 2)];
-
-    switch (below(dice, 4)) {
-    case 0: *end = (uint8_t)(draft->clusters - 1); break;
-    case 1: *end = (uint8_t)draft->clusters; break;
-    case 2: *end = 0xFF; break;
-    default: *end = (uint8_t)(draft->clusters + below(dice, 200)); break;
-    }
-}
-
-/* A period or a deadline at the edge of its range or outside. */
-static void damage_time(struct dice *dice, struct draft *draft)
-{
-    static const uint32_t times[] = {0, 0, 1, 0x80000000u, LONGEST_TIME, LONGEST_TIME + 1, 0xFFFFFFFFu};
-    uint32_t time = times[below(dice, sizeof times / sizeof times[0])];
-    struct draft_line *line = flow_line(dice, draft);
-    size_t place = 3 + 4 * below(dice, 2);
-
-    for (size_t i = 0; i < 4; i++)
-        line->bytes[place + i] = (uint8_t)(time >> (24 - 8 * i));
+    if (line->length > 4)
+        line->bytes[4 + pick(dice, line->length - 4)] = one_of(dice, tag_bytes, sizeof tag_bytes);
 }
 
 /* A root that has a parent, or another cluster whose parent is not a lower number. */
-static void damage_parent(struct dice *dice, struct draft *draft)
+static void damage_parent(struct dice *dice, struct draft_line *line, size_t number)
 {
-    size_t number;
-    struct draft_line *line = cluster_line(dice, draft, &number);
-
     switch (below(dice, 5)) {
     case 0: line->bytes[1] = (uint8_t)number; break;
     case 1: line->bytes[1] = (uint8_t)(number + 1); break;
@@ -198,11 +173,10 @@ static void damage_parent(struct dice *dice, struct draft *draft)
 }
 
 /* The tag of an earlier cluster once more, or one that differs from it in a byte or in its length. */
-static void damage_tag(struct dice *dice, struct draft *draft)
+static void damage_tag(struct dice *dice, struct draft *draft, size_t number)
 {
-    size_t number;
-    struct draft_line *line = cluster_line(dice, draft, &number);
-    const struct draft_line *earlier = line_at(draft, 1 + pick(dice, number > 0 ? number : 1));
+    struct draft_line *line = cluster_line(draft, number);
+    const struct draft_line *earlier = cluster_line(draft, pick(dice, number > 0 ? number : 1));
 
     line->length = earlier->length;
     memmove(line->bytes + 3, earlier->bytes + 3, DRAFT_BYTES - 3);
@@ -219,20 +193,68 @@ static void damage_tag(struct dice *dice, struct draft *draft)
     }
 }
 
+/* A bad field, a wrong parent or a tag that is used in the line of a cluster; often two of them. */
+static void damage_cluster(struct dice *dice, struct draft *draft)
+{
+    size_t number = pick(dice, draft->clusters);
+    struct draft_line *line = cluster_line(draft, number);
+
+    for (size_t faults = some_faults(dice); faults > 0; faults--)
+        switch (below(dice, 8)) {
+        case 0: damage_order(dice, line); break;
+        case 1: damage_tag_length(dice, line); break;
+        case 2: damage_tag_byte(dice, line); break;
+        case 3: case 4: damage_parent(dice, line, number); break;
+        default: damage_tag(dice, draft, number); break;
+        }
+}
+
+/* A flow that names a cluster that is not there, or one more that is. */
+static void damage_end(struct dice *dice, const struct draft *draft, struct draft_line *line)
+{
+    uint8_t *end = &line->bytes[1 + below(dice, 2)];
+
+    switch (below(dice, 4)) {
+    case 0: *end = (uint8_t)(draft->clusters - 1); break;
+    case 1: *end = (uint8_t)draft->clusters; break;
+    case 2: *end = 0xFF; break;
+    default: *end = (uint8_t)(draft->clusters + below(dice, 200)); break;
+    }
+}
+
+/* A period or a deadline at the edge of its range or outside. */
+static void damage_time(struct dice *dice, struct draft_line *line)
+{
+    static const uint32_t times[] = {0, 0, 1, 0x80000000u, LONGEST_TIME, LONGEST_TIME + 1, 0xFFFFFFFFu};
+    uint32_t time = times[below(dice, sizeof times / sizeof times[0])];
+    size_t place = 3 + 4 * below(dice, 2);
+
+    for (size_t i = 0; i < 4; i++)
+        line->bytes[place + i] = (uint8_t)(time >> (24 - 8 * i));
+}
+
+/* A bad end or a bad time of a flow; often two of them. */
+static void damage_flow(struct dice *dice, struct draft *draft)
+{
+    struct draft_line *line = flow_line(dice, draft);
+
+    for (size_t faults = some_faults(dice); faults > 0; faults--)
+        if (once_in(dice, 2))
+            damage_end(dice, draft, line);
+        else
+            damage_time(dice, line);
+}
+
 void damage_draft(struct dice *dice, struct draft *draft)
 {
-    switch (below(dice, 13)) {
+    switch (below(dice, 15)) {
     case 0: damage_kind(dice, draft); break;
     case 1: add_line(dice, draft); break;
     case 2: drop_line(dice, draft); break;
     case 3: damage_length(dice, draft); break;
-    case 4: damage_tag_length(dice, draft); break;
-    case 5: damage_header(dice, draft); break;
-    case 6: damage_cluster(dice, draft); break;
-    case 7: damage_end(dice, draft); break;
-    case 8: damage_time(dice, draft); break;
-    case 9: case 10: damage_parent(dice, draft); break;
-    default: damage_tag(dice, draft); break;
+    case 4: case 5: damage_header(dice, draft); break;
+    case 6: case 7: damage_flow(dice, draft); break;
+    default: damage_cluster(dice, draft); break;
     }
 }
 

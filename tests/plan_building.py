@@ -4,7 +4,7 @@ from dataclasses import dataclass
 
 from planning import interval
 from reference import LONGEST_TIME
-from site_building import LARGEST_TEXT, OPEN, cluster, flow, header, text_of
+from site_building import LARGEST_TEXT, OPEN, by, cluster, flow, header, text_of
 
 LONGEST_PLAN = 9_673
 
@@ -14,7 +14,7 @@ class Case:
     """A text and a room, and what docs/FORMATS.md answers, as we state it here without planning.py."""
     text: bytes
     room: int = LARGEST_TEXT
-    states: object = OPEN     # a refusal and its line, or the beacon order and the clusters in order of start
+    states: object = OPEN     # a refusal, or the beacon order and the clusters in order of start
 
 
 def planned(text, order, *clusters, room=LARGEST_TEXT):
@@ -22,7 +22,8 @@ def planned(text, order, *clusters, room=LARGEST_TEXT):
 
 
 def refused(text, number, line=0, room=LARGEST_TEXT):
-    return Case(text, room, (number, line))
+    """Refused for no field; for one, Case states it."""
+    return Case(text, room, by(number, line))
 
 
 def chain(count):

@@ -25,7 +25,7 @@ int main(void)
         unsigned changed = 0;
         for (size_t i = 0; i < MOST; i++)
             changed += room[i] != '.';
-        printf("%08X\n", changed);
+        printf("%08X\n%08X\n", changed, (unsigned)cartheron_place(text, text_len));
     }
     return ferror(stdout) != 0;
 }

@@ -5,15 +5,17 @@ program has to print, by planning.py.
 
 The input is a sequence of cases. A case is a head line in hexadecimal (text length, room length), the
 site text and an LF. The program fills a room with '.', plans the text into it and prints the number that
-came back, the plan text where that is a length, and how many bytes of the room are not '.' any more.
+came back, the plan text where that is a length, how many bytes of the room are not '.' any more, and the
+place of the text's bad field.
 """
 
 import sys
 
 import plan_rules
 import plan_sites
-from planning import plan
 from demands import hex_line
+from planning import plan
+from reference import place
 
 GROUPS = plan_rules.GROUPS + plan_sites.GROUPS
 
@@ -31,7 +33,7 @@ def stored_input(case):
 def expected_output(case):
     """What the program prints for a case."""
     number, written = plan(case.text, case.room)
-    return hex_line("I", number) + written + hex_line("I", len(written))
+    return hex_line("I", number) + written + hex_line("I", len(written)) + hex_line("I", place(case.text))
 
 
 if __name__ == "__main__":

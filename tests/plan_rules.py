@@ -1,7 +1,9 @@
 """Cases of the planner's rules, one group for each: the worked sites of docs/FORMATS.md and errors that look right."""
 
+from itertools import combinations
+
 from plan_building import *
-from site_building import CLUSTERS_ONLY, FULL, P3, made_bad, pair
+from site_building import CLUSTERS_ONLY, FULL, P3, by_bad, by_field, field_set, made_bad, pair, replaced
 
 P = {1: site([]),
      2: site(chain(3)),
@@ -38,23 +40,37 @@ def worked_sites():
 
 
 def refused_texts():
-    """Texts refused by 1 to 6 with their line, whatever the room."""
-    places = [(number, line) for number, first in ((1, 1), (2, 1), (3, 1), (4, 1), (5, 2), (6, 3))
-              for line in range(first, 6 if number < 5 else 5)]
+    """Texts refused with a line, whatever the room."""
+    places = [(number, line) for numbers, lines in (((1, 2, 3), range(1, 6)), ((11, 12, 5), (2, 3, 4)), ((6,), (3, 4)))
+              for number in numbers for line in lines]
     for room in 0, LARGEST_TEXT:
         yield refused(b"", 2, 1, room)
         for number, line in places:
-            yield refused(text_of(made_bad(P3, number, line)), number, line, room)
-    for number in 3, 4, 5, 6:
+            yield Case(text_of(made_bad(P3, number, line)), room, by_bad(number, line))
+    for number in 3, 11, 12, 5, 6:
         for line in 33, 65:
-            yield refused(text_of(made_bad(CLUSTERS_ONLY, number, line)), number, line)
-    yield refused(text_of(made_bad(FULL, 4, 193)), 4, 193)
+            yield Case(text_of(made_bad(CLUSTERS_ONLY, number, line)), states=by_bad(number, line))
+    yield Case(text_of(made_bad(FULL, 14, 193)), states=by_bad(14, 193))
     yield refused(P[3][:-1], 1, 5)
     yield refused(P[3] + b"\n", 1, 6)
     yield refused(P[3] + b"03\n", 2, 6)
     yield refused(text_of(P3[:-1]), 2, 5)
     yield refused(pair(b"A" * 64, b"A" * 64), 6, 3)
     yield refused(b"0" * LARGEST_TEXT, 1, 1)
+
+
+def bad_fields():
+    """Each field outside its range, and each two of a line: the first decides, whatever the room."""
+    for number, *fields in ((1, ("version", 2), ("cluster count", 65), ("flow count", 129)),
+                            (2, ("order", 15), ("tag byte", 0x20)), (4, ("order", 255), ("tag byte", 0x7F)),
+                            (5, ("source", 3), ("sink", 255), ("period", 0), ("deadline", LONGEST_TIME + 1)),
+                            (5, ("period", LONGEST_TIME + 1), ("deadline", 0))):
+        for bad in *combinations(fields, 1), *combinations(fields, 2):
+            line = P3[number - 1]
+            for field in bad:
+                line = field_set(line, *field)
+            for room in 0, LARGEST_TEXT:
+                yield Case(text_of(replaced(P3, number, line)), room, by_field(number, bad[0][0]))
 
 
 def rooms():
@@ -221,6 +237,6 @@ def deciding_flows():
             yield planned(text, order, *clusters) if clusters else refused(text, order)
 
 
-GROUPS = (worked_sites, refused_texts, rooms, longest_plans, periods, full_intervals, largest_orders,
+GROUPS = (worked_sites, refused_texts, bad_fields, rooms, longest_plans, periods, full_intervals, largest_orders,
           allowed_crossings, smaller_orders, roots_anywhere, lowest_numbers, downward_parts, loops, own_flows,
           deciding_flows)

@@ -2,14 +2,14 @@
 
 First the plan as "The plan that is returned" makes it, by constraints and shortest distances. Then,
 apart from that, what a placing is, and all placings of a small site by trying every sequence. A refusal
-is a pair: its number and its line.
+is that of reference.py: its number, its line, and the place of a field or NO_PLACE.
 """
 
 from itertools import accumulate, combinations, pairwise, permutations
 from math import inf
 
 import reference
-from reference import LARGEST_ORDER
+from reference import LARGEST_ORDER, NO_PLACE
 
 BASE = 960
 ROOT = 0
@@ -147,23 +147,34 @@ def plan_of(site):
         distances = shortest_distances(site.cluster_count, constraints(site, order))
         if distances is not None:
             return plan_text(site, order, sequence(site, distances))
-    return (8, 0) if orders else (7, 0)
+    return 8 if orders else 7, 0, NO_PLACE
 
 
 def plan_records(site, room_length):
-    """The plan text of records that may be anything, or their refusal by 4 to 9."""
+    """The plan text of records that may be anything, or their refusal; it is never by 1, 2 or 3."""
     answer = reference.check(site) or plan_of(site)
-    return (9, 0) if isinstance(answer, bytes) and len(answer) > room_length else answer
+    return (9, 0, NO_PLACE) if isinstance(answer, bytes) and len(answer) > room_length else answer
+
+
+def plan_or_refusal(text, room_length):
+    """The plan text of a site text, or its refusal."""
+    site = reference.read(text)
+    return site if isinstance(site, tuple) else plan_records(site, room_length)
 
 
 def plan(text, room_length):
     """The number that the C function gives back, and the bytes that it writes into the room."""
-    site = reference.read(text)
-    answer = site if isinstance(site, tuple) else plan_records(site, room_length)
+    answer = plan_or_refusal(text, room_length)
     if isinstance(answer, tuple):
-        refusal, line = answer
+        refusal, line, _ = answer
         return 65_536 * refusal + line, b""
     return len(answer), answer
+
+
+def printed(text):
+    """What the program prints for a text: the plan text, or the line of the refusal."""
+    answer = plan_or_refusal(text, inf)
+    return b"8F%02X%04X%02X\n" % answer if isinstance(answer, tuple) else answer
 
 
 def is_placing(site, order, starts):

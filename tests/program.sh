@@ -15,9 +15,7 @@ expected() { # what the program has to print for the site in a file
 import sys
 sys.path.insert(0, "tests")
 import planning
-number, room = planning.plan(open(sys.argv[1], "rb").read(), 9673)
-refusal = b"8F%02X%04X\n" % (number >> 16, number & 65535)
-sys.stdout.buffer.write(refusal if number > 65535 else room[:number])
+sys.stdout.buffer.write(planning.printed(open(sys.argv[1], "rb").read()))
 ' "$1"
 }
 agrees() { # STATUS FILE: bin/plan on the file, which has to end so
@@ -48,6 +46,11 @@ agrees 1 "$work/empty"
 agrees 1 "$work/long"
 sed '3s/^02/0g/' sites/pump-hall.site >"$work/damaged"
 agrees 1 "$work/damaged"
+sed '3s/^020000/02000F/' sites/pump-hall.site >"$work/field"
+agrees 1 "$work/field"
+[ "$(cat "$work/out")" = 8F0B000302 ] || fail "a superframe order of 15 in line 3: $(cat "$work/out")"
+sed '$s/........$/00000000/' sites/pump-hall.site >"$work/field"
+agrees 1 "$work/field"
 sed '5p' sites/pump-hall.site | sed '1s/0108/0109/' >"$work/repeated"
 agrees 1 "$work/repeated"
 
@@ -55,7 +58,7 @@ agrees 1 "$work/repeated"
 endless() { # FILE..: bin/plan on an input that never ends
     status=0
     timeout 120 bin/plan "$@" </dev/zero >"$work/out" || status=$?
-    [ "$status" -eq 1 ] && [ "$(cat "$work/out")" = 8F010001 ] || fail "an endless input: exit status $status"
+    [ "$status" -eq 1 ] && [ "$(cat "$work/out")" = 8F010001FF ] || fail "an endless input: exit status $status"
 }
 endless
 endless /dev/zero

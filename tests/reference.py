@@ -1,7 +1,7 @@
 """The site part of docs/FORMATS.md ("Site text", "Refusal numbers") in Python, independent of the product.
 
-The reader, the check of records, the site writer and the part shown. A refusal is a pair: its number
-and its line.
+The reader, the check of records, the site writer and the part shown. A refusal is three numbers: its own,
+its line, and the place of the field that decided, NO_PLACE where none did.
 """
 
 from dataclasses import dataclass, field
@@ -14,6 +14,7 @@ DIGITS = b"0123456789ABCDEF"
 HEADER, CLUSTER, FLOW = 1, 2, 3
 VERSION = 1
 NO_PARENT = 0xFF
+NO_PLACE = 0xFF
 
 
 @dataclass
@@ -62,24 +63,49 @@ def read(text):
     site = Site()
     present = lines(text)
     for number, (line, ended) in enumerate(present, 1):
-        refusal = take(site, number, line, ended)
-        if refusal:
-            return refusal, number
+        fault = take(site, number, line, ended)
+        if fault:
+            return at_line(number, fault)
     if len(present) < 1 + site.cluster_count + site.flow_count:
-        return 2, len(present) + 1
+        return at_line(len(present) + 1, whole_line(2))
     return site
 
 
+def place(text):
+    """The place of the field for which reading refuses a text; NO_PLACE for every other text."""
+    site = read(text)
+    return site[2] if isinstance(site, tuple) else NO_PLACE
+
+
+def whole_line(number):
+    """A fault of a line that is none of a field: a refusal number and no place."""
+    return number, NO_PLACE
+
+
+def at_line(line, fault):
+    """The refusal of a line with this fault."""
+    number, its_place = fault
+    return number, line, its_place
+
+
+def first_bad(*fields):
+    """The fault of the first field outside its range, or None; each has its place, its number, a value, its range."""
+    for its_place, number, value, least, most in fields:
+        if not least <= value <= most:
+            return number, its_place
+    return None
+
+
 def take(site, number, line, ended):
-    """Takes one more line into the site; the lowest refusal number of the line, or None."""
+    """Takes one more line into the site; its fault, a refusal number and a place, or None."""
     if not ended or not well_formed(line):
-        return 1
+        return whole_line(1)
     record = bytes.fromhex(line.decode())
     kind = record[0]
     if kind != kind_due(site, number):
-        return 2
+        return whole_line(2)
     if len(record) != length_due(record):
-        return 3
+        return whole_line(3)
     if kind == HEADER:
         return take_header(site, record)
     if kind == CLUSTER:
@@ -113,17 +139,15 @@ def length_due(record):
 
 
 def take_header(site, record):
-    if record[1] != VERSION:
-        return 4
     site.cluster_count, site.flow_count = record[2], record[3]
-    return counts_refusal(site)
+    return first_bad((1, 10, record[1], VERSION, VERSION)) or counts_fault(site)
 
 
 def take_cluster(site, i, record):
     cluster = site.clusters[i]
     cluster.parent, cluster.order, cluster.tag_length = record[1:4]
     cluster.tag[:cluster.tag_length] = record[4:]
-    return cluster_refusal(site, i)
+    return cluster_fault(site, i)
 
 
 def take_flow(site, j, record):
@@ -131,61 +155,58 @@ def take_flow(site, j, record):
     flow.source, flow.sink = record[1], record[2]
     flow.period = int.from_bytes(record[3:7], "big")
     flow.deadline = int.from_bytes(record[7:11], "big")
-    return flow_refusal(site, j)
+    return flow_fault(site, j)
 
 
-def counts_refusal(site):
-    """4 where a count is out of range, or None."""
-    if not 1 <= site.cluster_count <= CLUSTERS or not 0 <= site.flow_count <= FLOWS:
-        return 4
-    return None
+def counts_fault(site):
+    """The fault of a count out of range, or None."""
+    return first_bad((2, 10, site.cluster_count, 1, CLUSTERS), (3, 10, site.flow_count, 0, FLOWS))
 
 
-def cluster_refusal(site, i):
-    """4, 5 or 6 for cluster i where all before it are sound, or None."""
+def cluster_fault(site, i):
+    """The fault of cluster i where all before it are sound, or None: of its fields, its parent or its tag."""
     cluster = site.clusters[i]
-    if cluster.order > LARGEST_ORDER or not 1 <= cluster.tag_length <= TAG:
-        return 4
-    if not all(0x21 <= byte <= 0x7E for byte in cluster.tag_kept()):
-        return 4
+    fault = first_bad((2, 11, cluster.order, 0, LARGEST_ORDER), (3, 12, cluster.tag_length, 1, TAG),
+                      *((4 + b, 12, byte, 0x21, 0x7E) for b, byte in enumerate(cluster.tag_kept())))
+    if fault:
+        return fault
     if not (cluster.parent < i or i == 0 and cluster.parent == NO_PARENT):
-        return 5
+        return whole_line(5)
     if any(earlier.tag_kept() == cluster.tag_kept() for earlier in site.clusters[:i]):
-        return 6
+        return whole_line(6)
     return None
 
 
-def flow_refusal(site, j):
-    """4 for flow j where a field is out of range or a cluster isn't there, or None."""
-    flow = site.flows[j]
-    if flow.source >= site.cluster_count or flow.sink >= site.cluster_count:
-        return 4
-    if not 1 <= flow.period <= LONGEST_TIME or not 1 <= flow.deadline <= LONGEST_TIME:
-        return 4
-    return None
+def flow_fault(site, j):
+    """The fault of flow j where a cluster isn't there or a time is out of range, or None."""
+    flow, last = site.flows[j], site.cluster_count - 1
+    return first_bad((1, 13, flow.source, 0, last), (2, 13, flow.sink, 0, last),
+                     (3, 14, flow.period, 1, LONGEST_TIME), (7, 14, flow.deadline, 1, LONGEST_TIME))
 
 
 def check(site):
-    """The refusal of records that may be anything, by 4, 5 or 6 with the line they would have, or None."""
-    if counts_refusal(site):
-        return 4, 1
+    """The refusal of records that may be anything, with the line and the place they would have, or None."""
+    fault = counts_fault(site)
+    if fault:
+        return at_line(1, fault)
     for i in range(site.cluster_count):
-        refusal = cluster_refusal(site, i)
-        if refusal:
-            return refusal, 2 + i
+        fault = cluster_fault(site, i)
+        if fault:
+            return at_line(2 + i, fault)
     for j in range(site.flow_count):
-        if flow_refusal(site, j):
-            return 4, 2 + site.cluster_count + j
+        fault = flow_fault(site, j)
+        if fault:
+            return at_line(2 + site.cluster_count + j, fault)
     return None
 
 
 def write(site, room_length):
-    """The text of a site's records, or the refusal by 4, 5, 6, then by 9 where the room is shorter."""
+    """The text of a site's records, or the refusal of the records, then by 9 where the room is shorter."""
     refusal = check(site)
     if refusal:
         return refusal
     text = text_of(site)
-    return text if len(text) <= room_length else (9, 0)
+    return text if len(text) <= room_length else at_line(0, whole_line(9))
 
 
 def text_of(site):

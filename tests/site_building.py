@@ -3,11 +3,20 @@
 import struct
 from dataclasses import dataclass
 
+from reference import NO_PLACE
+
 LARGEST_TEXT = 12_288
 LARGEST_NUMBER = 4_294_967_295
 FIELDS = ("cluster count", "flow count", "parent", "order", "tag length", "tag byte",
           "source", "sink", "period", "deadline")
 OPEN = "open"
+
+# Where each field begins in its record, its bytes, and the refusal outside its range; a tag's are its first byte's.
+LAYOUT = {"version": (1, 1, 10), "cluster count": (2, 1, 10), "flow count": (3, 1, 10),
+          "parent": (1, 1, 5), "order": (2, 1, 11), "tag length": (3, 1, 12), "tag byte": (4, 1, 12),
+          "source": (1, 1, 13), "sink": (2, 1, 13), "period": (3, 4, 14), "deadline": (7, 4, 14)}
+# For each refusal by a field one that is outside its range.
+BAD = {10: ("version", 2), 11: ("order", 15), 12: ("tag byte", 0x20), 13: ("sink", 255), 14: ("deadline", 0)}
 
 
 @dataclass(frozen=True)
@@ -23,14 +32,24 @@ class Case:
     plan_room: int = LARGEST_TEXT
 
 
+def by(number, line=0, place=NO_PLACE):
+    """A refusal, for a field at a place or for none."""
+    return number, line, place
+
+
+# What records that are all zero are refused by: no clusters.
+ZERO = by(10, 1, 2)
+
+
 def reads(text, refusal=None, asked=2):
-    """A text that is accepted and given back, or refused; the records are then zero and refused by 4."""
-    return Case(text, refusal, (4, 1) if refusal else text, line=asked)
+    """A text that is accepted and given back, or refused; the records are then zero."""
+    return Case(text, refusal, ZERO if refusal else text, line=asked)
 
 
 def writes(text, answer, *patches, room=LARGEST_TEXT):
-    """A sound text whose patched records are refused, or written as a text."""
-    return Case(text, None, answer, patches, room)
+    """A sound text whose patched records are refused, by the planner too but for 9, or written as a text."""
+    refused = isinstance(answer, tuple) and answer[0] != 9
+    return Case(text, None, answer, patches, room, plans=answer if refused else OPEN)
 
 
 def both(base, text, refusal, *patches):
@@ -83,9 +102,9 @@ def sound(clusters, flows, tag_length=1):
             + [flow(j % clusters, 7 * j % clusters, 960 * (j + 1), 1_000_000_000 - j) for j in range(flows)])
 
 
-def one(cluster_line=cluster(0xFF, 0, b"A"), flow_line=flow(0, 0)):
+def one(cluster_line=cluster(0xFF, 0, b"A")):
     """The text of one cluster and one flow, lines 2 and 3."""
-    return text_of([header(1, 1), cluster_line, flow_line])
+    return text_of(replaced(ONE, 2, cluster_line))
 
 
 def pair(first, second):
@@ -103,21 +122,48 @@ def byte_set(text, place, byte):
     return text[:place] + bytes([byte]) + text[place + 1:]
 
 
+def field_set(line, name, value, place=0):
+    """The line with another value in a field; the place is that of a tag byte in its tag."""
+    begins, width, _ = LAYOUT[name]
+    first = 2 * (begins + place)
+    return line[:first] + line_of(*value.to_bytes(width, "big")) + line[first + 2 * width:]
+
+
+def by_field(line, name, place=0):
+    """The refusal of a line for this field."""
+    begins, _, number = LAYOUT[name]
+    return by(number, line, begins + place)
+
+
+def both_set(lines, number, refusal, *fields):
+    """Fields of one line set to values, in the text and in the records: the answer is the same."""
+    line, clusters = lines[number - 1], int(lines[0][4:6], 16)
+    index = number - 2 if number < 2 + clusters else number - 2 - clusters
+    for field in fields:
+        line = field_set(line, *field)
+    yield from both(text_of(lines), text_of(replaced(lines, number, line)), refusal,
+                    *(patch(name, value, index, *place) for name, value, *place in fields))
+
+
 def made_bad(lines, refusal, number):
-    """The lines with the one at this number made bad by a refusal number, and by no lower one."""
+    """The lines with the one at this number made bad by a refusal number, and by none that is tested earlier."""
     line = lines[number - 1]
-    out_of_range = {b"01": line[:2] + b"02" + line[4:],
-                    b"02": line[:4] + b"0F" + line[6:],
-                    b"03": line[:-8] + b"00000000"}
+    if refusal in BAD:
+        return replaced(lines, number, field_set(line, *BAD[refusal]))
     bad = {1: line[:-1],
            2: b"00" + line[2:],
            3: line + b"41",
-           4: out_of_range[line[:2]],
-           5: line[:2] + b"FE" + line[4:],
+           5: field_set(line, "parent", 0xFE),
            6: line[:6] + lines[number - 2][6:]}
     return replaced(lines, number, bad[refusal])
 
 
+def by_bad(refusal, number):
+    """The refusal of a line that was made bad by a refusal number."""
+    return by_field(number, BAD[refusal][0]) if refusal in BAD else by(refusal, number)
+
+
+ONE = [header(1, 1), cluster(0xFF, 0, b"A"), flow(0, 0)]
 P3 = [b"01010301", b"02FF000141", b"0200000142", b"0201000143", b"03020000000F0000000F00"]
 SMALL = [header(3, 2), cluster(0xFF, 0, b"A"), cluster(0, 14, b"Mast"), cluster(1, 10, b"|~"),
          flow(2, 0), flow(0, 1, 1_000_000_000, 0x0ABCDEF0)]

@@ -6,33 +6,32 @@ from site_building import *
 
 
 def records_refused():
-    """Records refused by 4, 5 and 6 at the first, a middle and the last cluster and flow."""
-    clusters, full, small = text_of(CLUSTERS_ONLY), text_of(FULL), text_of(SMALL)
-    for i in 0, 31, 63:
-        yield writes(clusters, (4, 2 + i), patch("order", 15, i))
-        yield writes(clusters, (5, 2 + i), patch("parent", i, i))
+    """Records refused at the first, a middle and the last cluster, and at each line of a small site."""
+    clusters, small = text_of(CLUSTERS_ONLY), text_of(SMALL)
     for i in 1, 31, 63:
-        yield writes(clusters, (6, 2 + i), patch("tag byte", 0x21 + i - 1, i))
-    for j, name, value in (0, "source", 64), (63, "sink", 64), (127, "period", 0), (127, "deadline", 0):
-        yield writes(full, (4, 66 + j), patch(name, value, j))
+        yield writes(clusters, by(6, 2 + i), patch("tag byte", 0x21 + i - 1, i))
     for i in range(3):
         for length in 0, 65, 255:
-            yield writes(small, (4, 2 + i), patch("tag length", length, i))
-        yield writes(small, (4, 2 + i), patch("tag byte", 0x7F, i))
+            yield writes(small, by_field(2 + i, "tag length"), patch("tag length", length, i))
+        yield writes(small, by_field(2 + i, "tag byte"), patch("tag byte", 0x7F, i))
+        yield writes(small, by_field(2 + i, "order"), patch("order", 255, i))
     for j in range(2):
         for name, value in (("source", 3), ("source", 256), ("sink", 255), ("sink", 65_535), ("period", 1_000_000_001),
                             ("deadline", 0)):
-            yield writes(small, (4, 5 + j), patch(name, value, j))
+            yield writes(small, by_field(5 + j, name), patch(name, value, j))
 
 
 def two_faults():
-    """The first bad record decides, in it the lowest number, and all come before the room."""
+    """The first bad record decides, in it the test that comes first, and all come before the room."""
     text = text_of(SMALL)
     order, parent, tag = patch("order", 15, 1), patch("parent", 1, 1), tag_patches(b"A", 1)
-    for answer, patches in (((4, 3), (parent, order)), ((4, 3), (*tag, order)), ((4, 3), (parent, *tag, order)),
-                            ((5, 3), (parent, *tag)),
-                            ((6, 3), (*tag, patch("order", 15, 2), patch("period", 0))),
-                            ((4, 1), (patch("flow count", 129), order))):
+    by_order = by_field(3, "order")
+    for answer, patches in ((by_order, (parent, order)), (by_order, (*tag, order)), (by_order, (parent, *tag, order)),
+                            (by(5, 3), (parent, *tag)),
+                            (by(6, 3), (*tag, patch("order", 15, 2), patch("period", 0))),
+                            (by_order, (order, patch("tag length", 0, 2), patch("source", 3))),
+                            (by_field(1, "flow count"), (patch("flow count", 129), order)),
+                            (by_field(5, "deadline"), (patch("deadline", 0), patch("source", 3, 1)))):
         for room in 0, LARGEST_TEXT:
             yield writes(text, answer, *patches, room=room)
 
@@ -46,29 +45,30 @@ def behind():
                  *(patch(name, LARGEST_NUMBER, j) for name in ("period", "deadline") for j in (2, 127)))
     yield writes(text, text, *tag_patches(b"A", 3))
     yield writes(text, text, patch("tag byte", 255, 0, 1), patch("tag byte", 0, 1, 63), patch("tag byte", 32, 2, 2))
-    yield writes(pair(b"A", b"B"), (6, 3), patch("tag byte", 0x43, 0, 1), patch("tag byte", 0x41, 1))
+    yield writes(pair(b"A", b"B"), by(6, 3), patch("tag byte", 0x43, 0, 1), patch("tag byte", 0x41, 1))
     yield writes(pair(b"A", b"AB"), pair(b"A", b"AB"), patch("tag byte", 0x42, 0, 1))
 
 
 def zero_behind():
     """Entries past the counts and bytes past a tag's length are zero after reading."""
-    for name, count, line in ("cluster count", 2, 3), ("flow count", 2, 4):
-        yield writes(one(), (4, line), patch(name, count))
+    for name, count, refusal in (("cluster count", 2, by_field(3, "tag length")),
+                                 ("flow count", 2, by_field(4, "period"))):
+        yield writes(one(), refusal, patch(name, count))
     yield writes(one(), text_of([header(2, 1), cluster(0xFF, 0, b"A"), cluster(0, 0, b"B"), flow(0, 0)]),
                  patch("cluster count", 2), *tag_patches(b"B", 1))
     yield writes(one(), text_of([header(1, 2), cluster(0xFF, 0, b"A"), flow(0, 0), flow(0, 0, 1, 2)]),
                  patch("flow count", 2), patch("period", 1, 1), patch("deadline", 2, 1))
-    yield writes(one(), (4, 2), patch("tag length", 2))
-    yield writes(one(), (4, 2), patch("tag length", 64))
+    for length in 2, 64:
+        yield writes(one(), by_field(2, "tag byte", 1), patch("tag length", length))
 
 
 def zero_after_refusal():
     """Records are zero after a refusal, also where the lines before it are sound."""
     root = patch("cluster count", 1), patch("parent", 0xFF), *tag_patches(b"Z")
-    for text, refusal in ((b"", (2, 1)), (text_of(SMALL[:-1]), (2, 6)), (text_of(made_bad(SMALL, 4, 6)), (4, 6)),
-                          (text_of(SMALL) + b"0", (1, 7))):
-        yield Case(text, refusal, (4, 2), (patch("cluster count", 1),))
-        yield Case(text, refusal, (4, 3), (*root, patch("flow count", 1)))
+    for text, refusal in ((b"", by(2, 1)), (text_of(SMALL[:-1]), by(2, 6)),
+                          (text_of(made_bad(SMALL, 14, 6)), by_bad(14, 6)), (text_of(SMALL) + b"0", by(1, 7))):
+        yield Case(text, refusal, by_field(2, "tag length"), (patch("cluster count", 1),))
+        yield Case(text, refusal, by_field(3, "period"), (*root, patch("flow count", 1)))
         yield Case(text, refusal, text_of([header(1, 0), cluster(0xFF, 0, b"Z")]), root)
 
 
@@ -81,7 +81,7 @@ def changed():
                                (flow(2, 0), flow(1, 2, 1, 0x01020304), *flow_patches(1, 2, 1, 0x01020304))):
         yield writes(text, text.replace(old, new), *patches)
     yield writes(text, text_of([header(1, 0), SMALL[1]]), patch("cluster count", 1), patch("flow count", 0))
-    yield writes(text, (4, 4), patch("cluster count", 2))
+    yield writes(text, by_field(4, "source"), patch("cluster count", 2))
 
 
 def damaged_records():

@@ -12,18 +12,18 @@ from plan_building import LONGEST_PLAN
 from plan_rules import P, longest_plans, own_flow
 from plan_sites import largest_sites, random_site
 from planning import (allowed, constraints, depth, fitting_orders, is_placing, permitted, placing_exists, placings,
-                      plan, shortest_distances, starts_of)
-from reference import read
-from site_building import LARGEST_TEXT, OPEN, P3, text_of
+                      plan, printed, shortest_distances, starts_of)
+from reference import place, read
+from site_building import LARGEST_TEXT, OPEN, P3, by, text_of
 
 CASES = plan_cases.cases()
 
 
 def answer(text, room=LARGEST_TEXT):
-    """A refusal and its line, or the beacon order and, in order of start, each cluster with its start."""
+    """A refusal, or the beacon order and, in order of start, each cluster with its start."""
     number, written = plan(text, room)
     if not written:
-        return divmod(number, 65_536)
+        return *divmod(number, 65_536), place(text)
     first, *others = [bytes.fromhex(line.decode()) for line in written.splitlines()]
     return first[2], tuple((line[1], int.from_bytes(line[2:6], "big")) for line in others)
 
@@ -45,12 +45,12 @@ class WorkedRows(unittest.TestCase):
         for text, answered in ((P[1], (14, ((0, 0),))),
                                (P[2], (14, ((0, 0), (1, 960), (2, 1_920)))),
                                (P[3], (2, ((2, 0), (1, 960), (0, 1_920)))),
-                               (P[4], (8, 0)),
+                               (P[4], by(8)),
                                (P[5], (2, ((0, 0), (2, 960), (1, 1_920)))),
                                (P[6], (2, ((0, 0), (2, 960), (1, 1_920)))),
                                (P[7], (1, ((0, 0), (1, 960)))),
-                               (P[8], (7, 0)),
-                               (own_flow(959), (7, 0)),
+                               (P[8], by(7)),
+                               (own_flow(959), by(7)),
                                (own_flow(960), (0, ((0, 0),))),
                                (P[10], (2, ((1, 0), (0, 960), (2, 1_920))))):
             self.assertEqual(answer(text), answered)
@@ -62,6 +62,11 @@ class WorkedRows(unittest.TestCase):
                                               b"8201000003C0000003C00142\n"
                                               b"820000000780000003C00141\n"))
         self.assertEqual(plan(P[3], 83), (65_536 * 9, b""))
+        self.assertEqual(printed(P[3]), plan(P[3], 84)[1])
+
+    def test_refusals_as_printed(self):
+        for text, line in (P[8], b"8F070000FF\n"), (b"", b"8F020001FF\n"), (b"01020000\n", b"8F0A000101\n"):
+            self.assertEqual(printed(text), line)
 
     def test_p6_though_order_10_is_permitted(self):
         self.assertTrue(permitted(read(P[6]), 10))
@@ -88,7 +93,7 @@ class Cases(unittest.TestCase):
     def test_no_refusal_and_no_order_is_rare(self):
         refusals = Counter(answered[0] for answered in ANSWERS if is_refusal(answered))
         orders = Counter(answered[0] for answered in ANSWERS if not is_refusal(answered))
-        self.assertEqual((set(refusals), set(orders)), (set(range(1, 10)), set(range(15))))
+        self.assertEqual((set(refusals), set(orders)), (set(range(1, 15)) - {4}, set(range(15))))
         self.assertGreaterEqual(min(refusals.values()), 10)
         self.assertGreaterEqual(min(orders.values()), 25)
         self.assertGreaterEqual(min(refusals[7], refusals[8], refusals[9]), 100)

@@ -10,17 +10,22 @@
 #define FLOW_LENGTH 11
 #define LONGEST_TIME 1000000000u
 
+/* In the order in which they are tested. */
 enum refusal {
-    NONE,
-    NOT_A_LINE,
-    WRONG_KIND,
-    WRONG_LENGTH,
-    OUT_OF_RANGE,
-    WRONG_PARENT,
-    TAG_USED,
-    NO_FIT,
-    NO_PLACING,
-    SHORT_ROOM
+    NONE = 0,
+    NOT_A_LINE = 1,
+    WRONG_KIND = 2,
+    WRONG_LENGTH = 3,
+    BAD_HEADER = 10,
+    BAD_ORDER = 11,
+    BAD_TAG = 12,
+    NO_CLUSTER = 13,
+    BAD_TIME = 14,
+    WRONG_PARENT = 5,
+    TAG_USED = 6,
+    NO_FIT = 7,
+    NO_PLACING = 8,
+    SHORT_ROOM = 9
 };
 
 /* The number that stands for a refusal at a line. */

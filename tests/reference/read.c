@@ -7,11 +7,34 @@
 
 #define LONGEST_RECORD 68
 #define NO_PARENT 0xFF
+#define NO_PLACE 0xFF
+#define COUNT(list) (sizeof(list) / sizeof(list)[0])
 
 struct record {
     size_t length;
     uint8_t bytes[LONGEST_RECORD];
 };
+
+/* A field of a record: where it begins, how many bytes it has, its range, and the refusal outside of it. */
+struct field {
+    size_t place;
+    size_t width;
+    uint32_t least;
+    uint32_t most;
+    enum refusal refusal;
+};
+
+/* What a line is refused for, NONE where it is taken, and the place of the field that decided. */
+struct verdict {
+    enum refusal refusal;
+    size_t place;
+};
+
+/* A verdict that names no field. */
+static struct verdict of_line(enum refusal refusal)
+{
+    return (struct verdict){.refusal = refusal, .place = NO_PLACE};
+}
 
 /* The value of a hexadecimal digit, or -1 for any other character. */
 static int digit(uint8_t character)
@@ -23,10 +46,10 @@ static int digit(uint8_t character)
     return -1;
 }
 
-/* Decodes the line that begins at *place and moves *place behind its LF. False means refusal 1. */
-static bool decode_line(const uint8_t *text, size_t text_len, size_t *place, struct record *record)
+/* Decodes the line that begins at *start and moves *start behind its LF. False means refusal 1. */
+static bool decode_line(const uint8_t *text, size_t text_len, size_t *start, struct record *record)
 {
-    size_t at = *place;
+    size_t at = *start;
 
     record->length = 0;
     while (at < text_len && text[at] != '\n') {
@@ -39,30 +62,49 @@ static bool decode_line(const uint8_t *text, size_t text_len, size_t *place, str
         record->bytes[record->length++] = (uint8_t)(16 * high + low);
         at += 2;
     }
-    *place = at + 1;
+    *start = at + 1;
     return at < text_len && record->length > 0;
 }
 
-/* The number of four bytes, the high byte first. */
-static uint32_t number_of(const uint8_t *bytes)
+/* The number in so many bytes, the high byte first. */
+static uint32_t number_of(const uint8_t *bytes, size_t width)
 {
-    return (uint32_t)bytes[0] << 24 | (uint32_t)bytes[1] << 16 | (uint32_t)bytes[2] << 8 | bytes[3];
+    uint32_t number = 0;
+
+    for (size_t i = 0; i < width; i++)
+        number = number << 8 | bytes[i];
+    return number;
 }
 
-/* Takes over the counts of a header, or gives its refusal. */
-static enum refusal read_header(const struct record *record, struct reference_site *site)
+/* Tests fields, which stand from left to right: the first that is outside its range decides. */
+static struct verdict test_fields(const uint8_t *bytes, const struct field *fields, size_t count)
 {
+    for (size_t i = 0; i < count; i++) {
+        const struct field *field = &fields[i];
+        uint32_t number = number_of(bytes + field->place, field->width);
+        if (number < field->least || number > field->most)
+            return (struct verdict){.refusal = field->refusal, .place = field->place};
+    }
+    return of_line(NONE);
+}
+
+/* Takes over the counts of a header, or refuses it. */
+static struct verdict read_header(const struct record *record, struct reference_site *site)
+{
+    static const struct field fields[] = {
+        {1, 1, 1, 1, BAD_HEADER},                  /* version */
+        {2, 1, 1, REFERENCE_CLUSTERS, BAD_HEADER}, /* number of clusters */
+        {3, 1, 0, REFERENCE_FLOWS, BAD_HEADER},    /* number of flows */
+    };
     const uint8_t *bytes = record->bytes;
 
     if (bytes[0] != 1)
-        return WRONG_KIND;
+        return of_line(WRONG_KIND);
     if (record->length != HEADER_LENGTH)
-        return WRONG_LENGTH;
-    if (bytes[1] != 1 || bytes[2] < 1 || bytes[2] > REFERENCE_CLUSTERS || bytes[3] > REFERENCE_FLOWS)
-        return OUT_OF_RANGE;
+        return of_line(WRONG_LENGTH);
     site->clusters = bytes[2];
     site->flows = bytes[3];
-    return NONE;
+    return test_fields(bytes, fields, COUNT(fields));
 }
 
 /* Whether two clusters have the same tag: equal lengths, and equal bytes up to that length. */
@@ -71,62 +113,73 @@ static bool same_tag(const struct reference_cluster *a, const struct reference_c
     return a->tag_length == b->tag_length && memcmp(a->tag, b->tag, a->tag_length) == 0;
 }
 
-/* Takes over the cluster with this number, or gives its refusal. */
-static enum refusal read_cluster(const struct record *record, size_t number, struct reference_site *site)
+/* Tests the fields of a cluster's record; the parent is none of them. Each byte of the tag is one. */
+static struct verdict test_cluster(const struct record *record)
+{
+    static const struct field fields[] = {
+        {2, 1, 0, REFERENCE_LARGEST_ORDER, BAD_ORDER}, /* superframe order */
+        {3, 1, 1, REFERENCE_TAG, BAD_TAG},             /* tag length */
+    };
+    struct verdict verdict = test_fields(record->bytes, fields, COUNT(fields));
+
+    for (size_t place = CLUSTER_LENGTH; place < record->length && verdict.refusal == NONE; place++) {
+        const struct field tag_byte = {place, 1, 0x21, 0x7E, BAD_TAG};
+        verdict = test_fields(record->bytes, &tag_byte, 1);
+    }
+    return verdict;
+}
+
+/* Takes over the cluster with this number, or refuses it. */
+static struct verdict read_cluster(const struct record *record, size_t number, struct reference_site *site)
 {
     struct reference_cluster *cluster = &site->cluster[number];
     const uint8_t *bytes = record->bytes;
 
     if (bytes[0] != 2)
-        return WRONG_KIND;
+        return of_line(WRONG_KIND);
     if (record->length < CLUSTER_LENGTH || record->length != CLUSTER_LENGTH + (size_t)bytes[3])
-        return WRONG_LENGTH;
-    if (bytes[2] > REFERENCE_LARGEST_ORDER || bytes[3] < 1)
-        return OUT_OF_RANGE;
-    for (size_t i = CLUSTER_LENGTH; i < record->length; i++)
-        if (bytes[i] < 0x21 || bytes[i] > 0x7E)
-            return OUT_OF_RANGE;
+        return of_line(WRONG_LENGTH);
+    struct verdict verdict = test_cluster(record);
+    if (verdict.refusal != NONE)
+        return verdict;
     if (number == 0 ? bytes[1] != NO_PARENT : bytes[1] >= number)
-        return WRONG_PARENT;
+        return of_line(WRONG_PARENT);
     cluster->parent = bytes[1];
     cluster->order = bytes[2];
     cluster->tag_length = bytes[3];
     memcpy(cluster->tag, bytes + CLUSTER_LENGTH, bytes[3]);
     for (size_t earlier = 0; earlier < number; earlier++)
         if (same_tag(&site->cluster[earlier], cluster))
-            return TAG_USED;
-    return NONE;
+            return of_line(TAG_USED);
+    return of_line(NONE);
 }
 
-/* Whether a required period or a deadline is in its range. */
-static bool time_in_range(uint32_t time)
+/* Takes over the flow with this number, or refuses it. */
+static struct verdict read_flow(const struct record *record, size_t number, struct reference_site *site)
 {
-    return time >= 1 && time <= LONGEST_TIME;
-}
-
-/* Takes over the flow with this number, or gives its refusal. */
-static enum refusal read_flow(const struct record *record, size_t number, struct reference_site *site)
-{
+    const uint32_t last_cluster = site->clusters - 1u;
+    const struct field fields[] = {
+        {1, 1, 0, last_cluster, NO_CLUSTER}, /* source */
+        {2, 1, 0, last_cluster, NO_CLUSTER}, /* sink */
+        {3, 4, 1, LONGEST_TIME, BAD_TIME},   /* required period */
+        {7, 4, 1, LONGEST_TIME, BAD_TIME},   /* deadline */
+    };
     struct reference_flow *flow = &site->flow[number];
     const uint8_t *bytes = record->bytes;
 
     if (bytes[0] != 3)
-        return WRONG_KIND;
+        return of_line(WRONG_KIND);
     if (record->length != FLOW_LENGTH)
-        return WRONG_LENGTH;
+        return of_line(WRONG_LENGTH);
     flow->source = bytes[1];
     flow->sink = bytes[2];
-    flow->period = number_of(bytes + 3);
-    flow->deadline = number_of(bytes + 7);
-    if (flow->source >= site->clusters || flow->sink >= site->clusters)
-        return OUT_OF_RANGE;
-    if (!time_in_range(flow->period) || !time_in_range(flow->deadline))
-        return OUT_OF_RANGE;
-    return NONE;
+    flow->period = number_of(bytes + 3, 4);
+    flow->deadline = number_of(bytes + 7, 4);
+    return test_fields(bytes, fields, COUNT(fields));
 }
 
 /* Takes over the record of a line, counted from 1, as the kind that is due there. */
-static enum refusal read_record(const struct record *record, size_t line, struct reference_site *site)
+static struct verdict read_record(const struct record *record, size_t line, struct reference_site *site)
 {
     size_t first_flow = 2 + (size_t)site->clusters;
 
@@ -136,35 +189,44 @@ static enum refusal read_record(const struct record *record, size_t line, struct
         return read_cluster(record, line - 2, site);
     if (line < first_flow + site->flows)
         return read_flow(record, line - first_flow, site);
-    return WRONG_KIND;
+    return of_line(WRONG_KIND);
 }
 
-/* Reads all lines until the first bad one. Returns 0, or 65,536 x refusal + line. */
-static uint32_t read_lines(const uint8_t *text, size_t text_len, struct reference_site *site)
+/* Reads all lines until the first that is refused or missing, whose number goes to *line. */
+static struct verdict read_lines(const uint8_t *text, size_t text_len, struct reference_site *site,
+                                 size_t *line)
 {
     struct record record;
-    size_t place = 0;
-    size_t line = 1;
+    size_t at = 0;
 
-    for (; place < text_len; line++) {
-        if (!decode_line(text, text_len, &place, &record))
-            return refuse(NOT_A_LINE, line);
-        enum refusal refusal = read_record(&record, line, site);
-        if (refusal != NONE)
-            return refuse(refusal, line);
+    for (*line = 1; at < text_len; (*line)++) {
+        if (!decode_line(text, text_len, &at, &record))
+            return of_line(NOT_A_LINE);
+        struct verdict verdict = read_record(&record, *line, site);
+        if (verdict.refusal != NONE)
+            return verdict;
     }
-    if (line < 2 + (size_t)site->clusters + site->flows)
-        return refuse(WRONG_KIND, line);
-    return 0;
+    return of_line(*line < 2 + (size_t)site->clusters + site->flows ? WRONG_KIND : NONE);
 }
 
 uint32_t reference_read(const uint8_t *text, size_t text_len, struct reference_site *site)
 {
+    size_t line;
+
     memset(site, 0, sizeof *site);
-    uint32_t answer = read_lines(text, text_len, site);
-    if (answer != 0)
-        memset(site, 0, sizeof *site);
-    return answer;
+    struct verdict verdict = read_lines(text, text_len, site, &line);
+    if (verdict.refusal == NONE)
+        return 0;
+    memset(site, 0, sizeof *site);
+    return refuse(verdict.refusal, line);
+}
+
+uint32_t reference_place(const uint8_t *text, size_t text_len)
+{
+    struct reference_site site = {0};
+    size_t line;
+
+    return (uint32_t)read_lines(text, text_len, &site, &line).place;
 }
 
 /* Finds a line, counted from 1, and gives its length without the LF; where it begins goes to *start. */

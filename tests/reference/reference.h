@@ -45,6 +45,9 @@ uint32_t reference_plan(const uint8_t *text, size_t text_len, uint8_t *room, siz
  * 65,536 x refusal + line. */
 uint32_t reference_rewrite(const uint8_t *text, size_t text_len, uint8_t *room, size_t room_len);
 
+/* The place of the first bad field of a text that reading refuses by 10 to 14; 255 for every other text. */
+uint32_t reference_place(const uint8_t *text, size_t text_len);
+
 /* The part of the text shown for a line: where it begins, and its bytes without the LF. */
 size_t reference_line_start(const uint8_t *text, size_t text_len, size_t line);
 size_t reference_line_length(const uint8_t *text, size_t text_len, size_t line);
