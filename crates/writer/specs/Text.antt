@@ -1,5 +1,5 @@
--- The text of a site's records (docs/FORMATS.md, "Site text"), and what the writer answers and leaves in the room ("Refusal numbers": 4, 5, 6,
--- then 9).
+-- The text of a site's records (docs/FORMATS.md, "Site text"), and what the writer answers and leaves in the room ("Refusal numbers": those of
+-- the check, then 9).
 use mathlib.Core.Bool.{cond}
 use mathlib.Core.List.{List, [], _∷_, _++_}
 use Prim.Native.Nat.{ℕ}
