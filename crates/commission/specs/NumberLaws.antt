@@ -7,13 +7,14 @@ use native.Mathlib.Omega.{arith}
 use lib.Dec.{leb}
 use lib.ListN.{length}
 use Rattle.hexline.specs.Loops.{decide}
+use Rattle.hexline.specs.Lines.{rows}
 use Rattle.hexroom.specs.Room.{handed}
 use Rattle.site.specs.declared.Site.{Site}
 use Rattle.site.specs.declared.Verdict.{Verdict}
 use Rattle.site.specs.declared.Verdict.the-variants.{Accepted, Refused}
 use Rattle.records.specs.Check.{checked}
 use Rattle.site.specs.Fields.{noPlace}
-use Rattle.site.specs.Answers.{refuses}
+use Rattle.site.specs.Answers.{refuses, verdictSays}
 use Rattle.reader.specs.declared.Reading.{Reading}
 use Rattle.reader.specs.Reading.{accepted, readText}
 use Rattle.commission.specs.SmallRefusals.{Small, text-refusal-small}
@@ -26,9 +27,10 @@ use Rattle.planner.specs.Answers.{plannedSays, outcomeAnswer, outcomeRoom, answ
 use Rattle.planner.specs.PlanSize.{plan-text-size, plan-size-at-most}
 use Rattle.plantext.specs.PlanText.{siteOf, planText}
 use Rattle.model.specs.Plans.{Outcome, planned, noFit, noPlacing, plan}
+use Rattle.checker.specs.Checks.{planVerdict, checkedPlan}
 use Rattle.roundtrip.specs.WriteOfRead.{write-of-read}
 use Rattle.roundtrip.specs.LongestSite.{longest-site}
-use Rattle.commission.specs.Numbers.{numberOf, planNumber, planRoom, rewriteNumber, rewriteRoom, placeNumber}
+use Rattle.commission.specs.Numbers.{numberOf, planNumber, planRoom, rewriteNumber, rewriteRoom, placeNumber, checkNumber}
 
 -- an answer of the writer whose length or line is small
 abbrev pub SmallWriting : Written → Type 0
@@ -64,6 +66,10 @@ module _ (t : List ℕ) (reading : Reading) (read : reading ≡ readText t) wher
     unfolding rewriteNumber rewriteRoom
     rewrite-refused room = let v = verdict-is (Refused number line place) refused in (rw v, rw v)
 
+    pub check-refused : (plan : List ℕ) → numberOf (refuses number line place) ≡ checkNumber t plan
+    unfolding checkNumber
+    check-refused plan = let v = verdict-is (Refused number line place) refused in rw v
+
     pub place-refused : place ≡ placeNumber t
     unfolding placeNumber
     place-refused = let v = verdict-is (Refused number line place) refused in rw v
@@ -89,6 +95,10 @@ module _ (t : List ℕ) (reading : Reading) (read : reading ≡ readText t) wher
 
     pub plan-small : (n : ℕ) → SmallPlan (outcomeAnswer s (plan (siteOf s)) n)
     plan-small n = outcome-small s records-checked n (plan (siteOf s)) refl
+
+    pub check-taken : (plan : List ℕ) → numberOf (verdictSays (planVerdict s (rows plan))) ≡ checkNumber t plan
+    unfolding checkNumber checkedPlan
+    check-taken plan = rw (text-taken, records-checked)
 
     pub rewrite-taken : (room : List ℕ) → (numberOf (writtenSays (fitting t (length room))) ≡ rewriteNumber t (length room)) × (handed t room ≡ rewriteRoom t room)
     unfolding rewriteNumber rewriteRoom written writtenRoom

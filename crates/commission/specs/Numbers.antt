@@ -1,5 +1,5 @@
 -- What the C functions give back for any text, and the room after them (docs/FORMATS.md, "The program and the C functions"): the length written, or
--- 65,536 times the refusal and the line; and the place of a refusal.
+-- 65,536 times the refusal and the line; 0 for a plan that is one; and the place of a refusal.
 use mathlib.Core.Path.{_≡_}
 use mathlib.Core.List.{List, [], _∷_}
 use Prim.Native.Nat.{ℕ, _+_, _*_}
@@ -13,8 +13,9 @@ use Rattle.reader.specs.Reading.{readText}
 use Rattle.records.specs.Check.{checked}
 use Rattle.writer.specs.Text.{textOf, writtenSays, written, roomAfter as writtenRoom}
 use Rattle.planner.specs.Answers.{plannedSays, answer, roomAfter}
+use Rattle.checker.specs.Checks.{checkedPlan}
 use Rattle.commission.specs.declared.Errand.{Errand}
-use Rattle.commission.specs.declared.Errand.the-variants.{Plan, Rewrite, Place}
+use Rattle.commission.specs.declared.Errand.the-variants.{Plan, Rewrite, Place, Check}
 
 -- an answer as one number: the first value that it gives, which is a length, or the refusal
 abbrev pub numberOf : Answer → ℕ
@@ -52,8 +53,13 @@ rewriteRoom text room = let s : Site = readText text .site in roomBy (readText t
 unfoldable pub placeNumber : List ℕ → ℕ
 placeNumber text = placeTold (readText text .verdict)
 
--- a number, and a room before and after it, are what is given for an errand
-abbrev pub Done : Errand → List ℕ → List ℕ → ℕ → List ℕ → Type 0
-Done Plan text before number after = (number ≡ planNumber text (length before)) × (after ≡ planRoom text before)
-Done Rewrite text before number after = (number ≡ rewriteNumber text (length before)) × (after ≡ rewriteRoom text before)
-Done Place text before number after = (number ≡ placeNumber text) × (after ≡ before)
+-- `cartheron_check`: the reader's refusal, else what the checker says of the plan for the records; 0 where it is one (request 2026-02)
+unfoldable pub checkNumber : List ℕ → List ℕ → ℕ
+checkNumber text plan = numberOf (orNext (verdictSays (readText text .verdict)) (verdictSays (checkedPlan (readText text .site) plan)))
+
+-- a number for a text and a plan, and a room before and after it, are what is given for an errand
+abbrev pub Done : Errand → List ℕ → List ℕ → List ℕ → ℕ → List ℕ → Type 0
+Done Plan text plan before number after = (number ≡ planNumber text (length before)) × (after ≡ planRoom text before)
+Done Rewrite text plan before number after = (number ≡ rewriteNumber text (length before)) × (after ≡ rewriteRoom text before)
+Done Place text plan before number after = (number ≡ placeNumber text) × (after ≡ before)
+Done Check text plan before number after = (number ≡ checkNumber text plan) × (after ≡ before)

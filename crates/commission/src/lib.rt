@@ -10,7 +10,7 @@ ghost use lib.ListN.{length};
 ghost use Rattle.hexroom.specs.Room.{handed};
 ghost use Rattle.shown.specs.Shown.{lineStart, lineAt};
 ghost use Rattle.writer.specs.Text.{fitting};
-ghost use Rattle.commission.specs.Numbers.{planNumber, planRoom, rewriteNumber, rewriteRoom, placeNumber, Done};
+ghost use Rattle.commission.specs.Numbers.{planNumber, planRoom, rewriteNumber, rewriteRoom, placeNumber, checkNumber, Done};
 
 // A refusal as one number.
 fn refusal_number(number: u8, line: usize) -> u32
@@ -37,18 +37,20 @@ fn give_back(text: &[u8], room: &mut [u8]) -> Written
     Written::Length(length)
 }
 
-// What a caller wants: of a site that reads its plan or its text, of a refused one the place.
+// What a caller wants: of a site that reads its plan, its text or whether a plan is one for it, of a
+// refused one the place.
 enum Errand {
     Plan,
     Rewrite,
     Place,
+    Check,
 }
 
 // Reads the site, and does what is wanted with its records: what was read needs no second check. The
-// three C functions that read go through here, so that one frame serves the reader and what comes after
+// four C functions that read go through here, so that one frame serves the reader and what comes after
 // it.
-fn read_and(text: &[u8], room: &mut [u8], errand: Errand) -> u32
-    ensures { λ r. ⌜ Done errand (now (text .entry)) (now (room .entry)) r (now (room .exit)) ⌝ }
+fn read_and(text: &[u8], plan: &[u8], room: &mut [u8], errand: Errand) -> u32
+    ensures { λ r. ⌜ Done errand (now (text .entry)) (now (plan .entry)) (now (room .entry)) r (now (room .exit)) ⌝ }
 {
     let reading = reader::read(text);
     let verdict = reading.verdict;
@@ -61,6 +63,7 @@ fn read_and(text: &[u8], room: &mut [u8], errand: Errand) -> u32
             Errand::Place => place as u32,
             Errand::Plan => refusal_number(number, line),
             Errand::Rewrite => refusal_number(number, line),
+            Errand::Check => refusal_number(number, line),
         },
         Verdict::Accepted => match errand {
             Errand::Place => NO_PLACE as u32,
@@ -86,6 +89,17 @@ fn read_and(text: &[u8], room: &mut [u8], errand: Errand) -> u32
                     } => refusal_number(number, line),
                 }
             }
+            Errand::Check => {
+                let checked = checker::check_accepted(reading.site, plan);
+                match checked {
+                    Verdict::Accepted => 0,
+                    Verdict::Refused {
+                        number,
+                        line,
+                        place: _,
+                    } => refusal_number(number, line),
+                }
+            }
         },
     }
 }
@@ -96,7 +110,7 @@ fn read_and(text: &[u8], room: &mut [u8], errand: Errand) -> u32
 pub extern "C" fn cartheron_plan(text: &[u8], room: &mut [u8]) -> u32
     ensures { λ r. ⌜ (r ≡ planNumber (now (text .entry)) (length (now (room .entry)))) × (now (room .exit) ≡ planRoom (now (text .entry)) (now (room .entry))) ⌝ }
 {
-    read_and(text, room, Errand::Plan)
+    read_and(text, b"", room, Errand::Plan)
 }
 
 // Reads the site and writes its text into the room: the length written, or 65,536 x refusal + line
@@ -105,7 +119,7 @@ pub extern "C" fn cartheron_plan(text: &[u8], room: &mut [u8]) -> u32
 pub extern "C" fn cartheron_rewrite(text: &[u8], room: &mut [u8]) -> u32
     ensures { λ r. ⌜ (r ≡ rewriteNumber (now (text .entry)) (length (now (room .entry)))) × (now (room .exit) ≡ rewriteRoom (now (text .entry)) (now (room .entry))) ⌝ }
 {
-    read_and(text, room, Errand::Rewrite)
+    read_and(text, b"", room, Errand::Rewrite)
 }
 
 // The place of the first bad field of a text that reading refuses by 10 to 14, and 255 for every other
@@ -116,7 +130,17 @@ pub extern "C" fn cartheron_place(text: &[u8]) -> u32
 {
     let mut none = [0u8; 1];
     let room: &mut [u8] = &mut none;
-    read_and(text, room, Errand::Place)
+    read_and(text, b"", room, Errand::Place)
+}
+
+// Whether a plan text, whoever wrote it, is a plan for the site: 0, or 65,536 x refusal + line.
+#[no_mangle]
+pub extern "C" fn cartheron_check(text: &[u8], plan: &[u8]) -> u32
+    ensures { λ r. ⌜ r ≡ checkNumber (now (text .entry)) (now (plan .entry)) ⌝ }
+{
+    let mut none = [0u8; 1];
+    let room: &mut [u8] = &mut none;
+    read_and(text, plan, room, Errand::Check)
 }
 
 // Where the part begins that is shown for a line.

@@ -20,7 +20,7 @@ pub const BIAS: u32 = 64;
 // The crossed periods that a deadline allows at an order: one less than the whole intervals in it, or
 // 0. An interval is the base doubled as often as the order says, so no division is by a number that
 // only a site tells.
-fn allowed(deadline: u32, order: u8) -> u32
+pub fn allowed(deadline: u32, order: u8) -> u32
     requires { ⌜ order ≤ largest ⌝ }
     ensures { λ r. ⌜ r ≡ deadline / interval order - 1 ⌝ }
 {

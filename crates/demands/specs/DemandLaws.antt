@@ -23,7 +23,10 @@ use Rattle.reader.specs.Reading.{verdictAt, entered, accepted, onward, readRows
 use Rattle.reader.specs.Places.{noRow, text-place-is-first-bad, text-place-only-then}
 use Rattle.roundtrip.specs.AcceptedExactly.{accepted-exactly}
 use Rattle.roundtrip.specs.WriteOfRead.{write-of-read}
-use Rattle.demands.specs.Demands.{Surveyed, LineShown}
+use Rattle.planner.specs.PlanSize.{planSize}
+use Rattle.exactness.specs.CallerExact.{ExactNumber, same-site}
+use Rattle.exactness.specs.CheckExact.{ExactCheck, plan-in-is-plan}
+use Rattle.demands.specs.Demands.{Surveyed, PlannedAndPassed, LineShown}
 
 -- ---- the reader
 
@@ -112,3 +115,30 @@ line-shown text part k h = record {
   that-line = λ n e l. let w = that-line (now text) k n e l in (w .0, h .bytes ∙ w .1);
   no-line = λ e. let w = no-line (now text) k e in (w .0, h .bytes ∙ w .1);
 }
+
+-- ---- a text planned, and what was written checked
+
+module _ (text before : List ℕ) (n : ℕ) (after : List ℕ) (exact : ExactNumber text before n after) where
+  -- a plan is no longer than the room that it stands in
+  pub plan-fits : n < 65536 → n ≤ length before
+  plan-fits small = omega (arith, exact .plan-is-placing small .3 .size, planned-size small)
+    where
+      planned-size : n < 65536 → planSize (exact .plan-is-placing small .0) ≤ length before
+      planned-size less = let w = exact .planned-exactly .0 less in let q = same-site text (w .0) (exact .plan-is-placing small .0) (w .1) (exact .plan-is-placing small .2) in rw q at (w .3)
+
+  pub plan-passed : n < 65536 → (r : ℕ) → ExactCheck text (take n after) r → PlannedAndPassed text before r after
+  plan-passed small r check =
+      let w = exact .plan-is-placing small in
+      let zero = check .accepts-exactly .1 (w .0, w .2, plan-in-is-plan (w .0) (write-of-read text (w .0) (w .2) .0) before n (w .1) after (w .3)) in
+      record {
+        passed-exactly = (λ e. exact .planned-exactly .0 small, λ p. zero);
+        plan-is-placing = λ e. (w .0, n, w .1, w .2, w .3);
+        refused-alike = λ some. absurd (omega arith);
+      }
+
+  pub plan-refused : 65536 ≤ n → PlannedAndPassed text before n after
+  plan-refused large = record {
+    passed-exactly = (λ e. absurd (omega arith), λ p. absurd (omega (arith, exact .planned-exactly .1 p)));
+    plan-is-placing = λ e. absurd (omega arith);
+    refused-alike = λ some. (large, exact);
+  }

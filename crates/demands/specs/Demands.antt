@@ -1,4 +1,4 @@
--- What a caller may rely on, beside `ExactNumber`, `ExactRewrite`, `ExactPlace`, `ExactAnswer` (crate exactness) and `ExactWriting` (crate roundtrip): the reader's answer,
+-- What a caller may rely on, beside `ExactNumber`, `ExactRewrite`, `ExactPlace`, `ExactAnswer`, `ExactCheck`, `ExactChecking` (crate exactness) and `ExactWriting` (crate roundtrip): the reader's answer,
 -- records there and back, the part shown for a line, and what a line is by itself. Each is stated of the values that really came back.
 use mathlib.Core.Path.{_≡_}
 use mathlib.Core.Bool.{not}
@@ -23,6 +23,11 @@ use Rattle.reader.specs.Places.{noRow, FieldRefused}
 use Rattle.records.specs.Check.{checked}
 use Rattle.writer.specs.Text.{textOf}
 use Rattle.roundtrip.specs.Kept.{kept}
+use Rattle.model.specs.Exactness.{Placeable}
+use Rattle.plantext.specs.PlanText.{siteOf}
+use Rattle.planner.specs.PlanSize.{planSize}
+use Rattle.exactness.specs.PlannerExact.{PlanIn}
+use Rattle.exactness.specs.CallerExact.{Reads, ExactNumber}
 
 -- a text is taken exactly if it is the text of records that the check accepts, and then its records write back to it; else it is refused by the table of refusals,
 -- with records that are all zero. A refusal by 10 to 14 names the first bad field of its line by its place, and every other has the place FF
@@ -39,6 +44,12 @@ pub record BackAgain (s : Site) (before : List ℕ) (r : Reading) (after : List 
   pub same-records : checked s ≡ Accepted → length (textOf s) ≤ length before → (r ≡ accepted (kept s)) × (after ≡ textOf s ++ drop (length (textOf s)) before)
   pub refused-alike : (number line place : ℕ) → checked s ≡ Refused number line place → (r ≡ refused number line place) × (after ≡ before)
   pub short-room : checked s ≡ Accepted → length before < length (textOf s) → (r ≡ refused 9 0 255) × (after ≡ before)
+
+-- a text planned, and what was written checked: 0 exactly if there is a plan and the room is as long as it, and the room then begins with that plan; else the planner's refusal, and the room as it was
+pub record PlannedAndPassed (text before : List ℕ) (n : ℕ) (after : List ℕ) : Type 0 where
+  pub passed-exactly : (n ≡ 0) ↔ ((s : Site) × Reads text s × Placeable (siteOf s) × (planSize s ≤ length before))
+  pub plan-is-placing : n ≡ 0 → (s : Site) × (len order : ℕ) × Reads text s × PlanIn s before len order after
+  pub refused-alike : 0 < n → (65536 ≤ n) × ExactNumber text before n after
 
 -- a part of a text's own memory: the characters of line k, lines counted from 1, or the empty part at the text's end where there is no line k
 pub record LineShown (text part : RefT (List ℕ)) (k : ℕ) : Type 0 where

@@ -52,6 +52,24 @@ pub fn print_reading(reading: Reading) -> usize {
     }
 }
 
+// Prints that something was taken: 80.
+fn print_taken() {
+    print_line(&[1], &[0x80]);
+}
+
+// Prints what is said of a plan: 80, or the refusal.
+pub fn print_verdict(verdict: Verdict) {
+    if let Verdict::Refused {
+        number,
+        line,
+        place,
+    } = verdict {
+        print_refusal(number, line, place);
+    } else {
+        print_taken();
+    }
+}
+
 // Prints what a line is: 80, or the refusal.
 pub fn print_entry(entry: Entry) {
     if let Entry::Refused {
@@ -61,7 +79,7 @@ pub fn print_entry(entry: Entry) {
     } = entry {
         print_refusal(number, line, place);
     } else {
-        print_line(&[1], &[0x80]);
+        print_taken();
     }
 }
 
@@ -127,9 +145,9 @@ pub fn print_changed(space: &[u8; MOST_BYTES]) {
     print_line(&[4], &[changed(space) as u64]);
 }
 
-// Prints the place that a client got.
-pub fn print_place(place: u32) {
-    print_line(&[4], &[place as u64]);
+// Prints the number that a client without a room got.
+pub fn print_alone(number: u32) {
+    print_line(&[4], &[number as u64]);
 }
 
 // Prints the number that a client got, and how many bytes of a space of '.' changed.

@@ -15,10 +15,11 @@ ghost use Prim.Native.Nat.{_+_, _*_, _≤_};
 ghost use Rattle.reader.specs.Reading.{refused as refusedAs};
 ghost use Rattle.roundtrip.specs.WriterExact.{ExactWriting};
 ghost use Rattle.exactness.specs.CallerExact.{ExactNumber};
+ghost use Rattle.exactness.specs.CheckExact.{ExactCheck, ExactChecking};
 ghost use Rattle.exactness.specs.PlannerExact.{ExactAnswer};
 ghost use Rattle.exactness.specs.RewriteExact.{ExactRewrite};
 ghost use Rattle.exactness.specs.PlaceExact.{ExactPlace};
-ghost use Rattle.demands.specs.Demands.{Surveyed, BackAgain, LineShown, LineAnswered};
+ghost use Rattle.demands.specs.Demands.{Surveyed, BackAgain, PlannedAndPassed, LineShown, LineAnswered};
 
 // The commissioning tool's way: a site's text and a room in, one number out.
 pub fn commission(text: &[u8], room: &mut [u8]) -> u32
@@ -95,6 +96,32 @@ pub fn place(text: &[u8]) -> u32
     ensures { λ r. ⌜ ExactPlace (now (text .entry)) r ⌝ }
 {
     commission::cartheron_place(text)
+}
+
+// Whether a text is a plan for a site, by the C function.
+pub fn check(text: &[u8], plan: &[u8]) -> u32
+    ensures { λ r. ⌜ ExactCheck (now (text .entry)) (now (plan .entry)) r ⌝ }
+{
+    commission::cartheron_check(text, plan)
+}
+
+// The checker on records, which may be anything.
+pub fn check_records(site: Site, plan: &[u8]) -> Verdict
+    ensures { λ r. ⌜ ExactChecking site (now (plan .entry)) r ⌝ }
+{
+    checker::check_plan(site, plan)
+}
+
+// Plans a text and has what was written checked: 0 where it passes, or the planner's refusal.
+pub fn plan_and_check(text: &[u8], room: &mut [u8]) -> u32
+    ensures { λ r. ⌜ PlannedAndPassed (now (text .entry)) (now (room .entry)) r (now (room .exit)) ⌝ }
+{
+    let number = commission(text, room);
+    if number > 65535 {
+        return number;
+    }
+    let length = number as usize;
+    check(text, &room[..length])
 }
 
 // A reading of records that are all zero, with this refusal.

@@ -58,6 +58,15 @@ pub fn run_survey(text: &[u8], room: usize)
     print_number(number, &bytes);
 }
 
+// Plans a text and has what was written checked.
+pub fn run_plan_and_check(text: &[u8], room: usize)
+    requires { ⌜ room ≤ 12288 ⌝ }
+{
+    let mut bytes = space(b'.');
+    let number = clients::plan_and_check(text, &mut bytes[..room]);
+    print_number(number, &bytes);
+}
+
 // Takes a text there and back.
 pub fn run_rewrite(text: &[u8], room: usize)
     requires { ⌜ room ≤ 12288 ⌝ }

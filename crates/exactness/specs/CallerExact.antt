@@ -125,7 +125,7 @@ caller-returned text room = by-verdict (readText text .verdict) refl
 -- ---- and each exactly where it should
 
 module _ (text : List ℕ) where
-  same-site : (s t : Site) → Reads text s → Reads text t → s ≡ t
+  pub same-site : (s t : Site) → Reads text s → Reads text t → s ≡ t
   same-site s t p q = ap (λ (r : Reading). r .site) (sym p ∙ q)
 
   pub reads-or-refused : {A : Type 0} (s : Site) (m k p : ℕ) → Reads text s → readText text .verdict ≡ Refused m k p → A

@@ -3,15 +3,15 @@
 -- A part of a text that is shown is a place in memory and its bytes; these are equal, and nothing else of it can be looked at. The exceptions,
 -- which docs/PROMISES.md explains, are functions that fill arrays of inner functions' own and leave some of them open (relaxing::settle, hexbytes::is_malformed, site::line_entry, figures::figures_of, this one also its period).
 use mathlib.Core.Path.{_≡_, sym, _∙_}
-use mathlib.Core.Bool.{Bool, false}
+use mathlib.Core.Bool.{Bool, false, not, _&&_}
 use mathlib.Core.List.{List, [], _∷_, _++_}
-use Prim.Native.Nat.{ℕ, _+_, _*_, _/_, _<_, min}
+use Prim.Native.Nat.{ℕ, _+_, _-_, _*_, _/_, _<_, min}
 use lib.ListN.{length, getD, take, drop, replicate}
 use denote.Ref.{RefT, ptr, now}
 use Rattle.hexline.specs.Digits.{isDigit, digit, hexOf, byteAt, numberAt, hexes, numberBytes, fieldBytes, lineOf}
-use Rattle.hexline.specs.Loops.{filled}
+use Rattle.hexline.specs.Loops.{every, filled}
 use Rattle.hexbytes.specs.Decoded.{Decoded}
-use Rattle.hexline.specs.Lines.{Row, lineLength, malformed}
+use Rattle.hexline.specs.Lines.{Row, rows, lineLength, malformed}
 use Rattle.hexroom.specs.Room.{put}
 use Rattle.model.specs.declared.Order.{Order}
 use Rattle.model.specs.Counting.{at as numberIn, values}
@@ -27,6 +27,7 @@ use Rattle.search.specs.Deciding.{searched-once}
 use Rattle.search.specs.Posed.{Posed, Searched}
 use Rattle.sequence.specs.Holding.{inOrder, Sequenced}
 use Rattle.sequence.specs.Running.{sequenced-room}
+use Rattle.site.specs.declared.Cluster.{Cluster}
 use Rattle.site.specs.declared.Entry.{Entry}
 use Rattle.site.specs.declared.Flow.{Flow}
 use Rattle.site.specs.declared.Site.{Site}
@@ -41,7 +42,11 @@ use Rattle.shown.specs.Shown.{lineStart, lineAt, Shown}
 use Rattle.writer.specs.Text.{textOf, written, roomAfter as writtenRoom}
 use Rattle.plantext.specs.PlanText.{siteOf, planHeader, clusterLine}
 use Rattle.planner.specs.Answers.{answer, roomAfter, outcomeAnswer, outcomeRoom}
-use Rattle.commission.specs.Numbers.{planNumber, planRoom, rewriteNumber, rewriteRoom, placeNumber}
+use Rattle.planlines.specs.PlanFront.{frontIn, tagDigits}
+use Rattle.planlines.specs.PlanLines.{headerIn, describes as describesIt}
+use Rattle.deadlines.specs.Late.{someLate}
+use Rattle.checker.specs.Checks.{planVerdict, checkedPlan}
+use Rattle.commission.specs.Numbers.{planNumber, planRoom, rewriteNumber, rewriteRoom, placeNumber, checkNumber}
 use Rattle.roundtrip.specs.EqualResults.{equal-results, equal-results-in-room}
 
 -- two results that are d are equal
@@ -73,6 +78,7 @@ pub record EqualResults : Type 0 where
   pub «is_malformed» : (most : ℕ) (r : Row) (r₁ r₂ : Bool) (bytes₁ bytes₂ : List ℕ) → (r₁ ≡ malformed most r) × (r₁ ≡ false → Decoded (r .chars) bytes₁)
       → (r₂ ≡ malformed most r) × (r₂ ≡ false → Decoded (r .chars) bytes₂) → (r₁ ≡ r₂) × (r₁ ≡ false → bytes₁ ≡ bytes₂)
   pub «byte_of» : (line : List ℕ) (k : ℕ) → OneResult (byteAt line k)
+  pub «are_digits» : (line : List ℕ) (at n : ℕ) → OneResult (every n (λ j. isDigit (getD line (at + j) 0)))
   pub «byte_at» : (line : List ℕ) (k : ℕ) → OneResult (byteAt line k)
   pub «number_at» : (line : List ℕ) (k width : ℕ) → OneResult (numberAt line k width)
   pub «line_end» : (text : List ℕ) (at : ℕ) → OneResult (at + lineLength (drop at text))
@@ -108,6 +114,7 @@ pub record EqualResults : Type 0 where
   pub top : (sets : List ℕ) (a b r₁ r₂ : ℕ) → ((parent : ℕ → ℕ) × Lineages parent sets)
       → ((parent : ℕ → ℕ) → Lineages parent sets → r₁ ≡ topOf parent a b) → ((parent : ℕ → ℕ) → Lineages parent sets → r₂ ≡ topOf parent a b) → r₁ ≡ r₂
   pub «limit_flows» : (descents deadlines : List ℕ) (order : ℕ) → OneResult (limitsOf descents deadlines (interval order))
+  pub allowed : (deadline order : ℕ) → OneResult (deadline / interval order - 1)
   pub «constraint_at» : (place : ℕ) (parents sources sinks limits : List ℕ) → OneResult (getD (siteEntries parents sources sinks limits) place blank)
   pub sequence : (size : ℕ) (parent N : ℕ → ℕ) (room room₁ room₂ : List ℕ) (r₁ r₂ : ℕ) → Sequenced size parent N room room₁ r₁ → Sequenced size parent N room room₂ r₂ → (r₁ ≡ r₂) × (room₁ ≡ room₂)
   pub search : (figures : Figures) (before counts₁ counts₂ : List ℕ) (r₁ r₂ : Found) → ((s : model.Site) × Posed s figures)
@@ -119,10 +126,20 @@ pub record EqualResults : Type 0 where
   pub write : (s : Site) (room : List ℕ) → OneResultInRoom (written (checked s) (textOf s) (length room)) (writtenRoom (checked s) (textOf s) room)
   pub «plan_accepted» : (s : Site) (room : List ℕ) → OneResultInRoom (outcomeAnswer s (planOf (siteOf s)) (length room)) (outcomeRoom s (planOf (siteOf s)) room)
   pub plan : (s : Site) (room : List ℕ) → OneResultInRoom (answer s (length room)) (roomAfter s room)
+  -- the lines of a plan, what the flows ask of one, and the checker
+  pub «header_line» : (r : Row) → OneResult (headerIn r)
+  pub «front_line» : (rest : List ℕ) → OneResult (frontIn rest)
+  pub «is_tag_whole» : (rest : List ℕ) (len : ℕ) → OneResult (tagDigits rest len)
+  pub describes : (rest : List ℕ) (len : ℕ) (cluster : Cluster) → OneResult (tagDigits rest len && describesIt (take (22 + 2 * len) rest) cluster)
+  pub permits : (s : Site) (order : ℕ) → OneResult (permitted order (model.periods (siteOf s)))
+  pub «all_on_time» : (s : Site) (order : ℕ) (starts : List ℕ) → OneResult (not (someLate (siteOf s) order (numberIn starts)))
+  pub «check_accepted» : (s : Site) (plan : List ℕ) → OneResult (planVerdict s (rows plan))
+  pub «check_plan» : (s : Site) (plan : List ℕ) → OneResult (checkedPlan s plan)
   -- the C functions
   pub «cartheron_plan» : (text room : List ℕ) → OneResultInRoom (planNumber text (length room)) (planRoom text room)
   pub «cartheron_rewrite» : (text room : List ℕ) → OneResultInRoom (rewriteNumber text (length room)) (rewriteRoom text room)
   pub «cartheron_place» : (text : List ℕ) → OneResult (placeNumber text)
+  pub «cartheron_check» : (text plan : List ℕ) → OneResult (checkNumber text plan)
   pub «cartheron_line_start» : (text : List ℕ) (line : ℕ) → OneResult (lineStart text line)
   pub «cartheron_line_length» : (text : List ℕ) (line : ℕ) → OneResult (length (lineAt text line))
 
@@ -135,6 +152,7 @@ results-are-equal = record {
       let e = equal-results (malformed most r) r₁ r₂ (p .0) (q .0) in
       (e, λ f. equal-results (filled (byteAt (r .chars)) (replicate 68 0) (length (r .chars) / 2)) bytes₁ bytes₂ (p .1 f .bytes) (q .1 (sym e ∙ f) .bytes));
   «byte_of» = λ line k. equal-results (byteAt line k);
+  «are_digits» = λ line at n. equal-results (every n (λ j. isDigit (getD line (at + j) 0)));
   «byte_at» = λ line k. equal-results (byteAt line k);
   «number_at» = λ line k width. equal-results (numberAt line k width);
   «line_end» = λ text at. equal-results (at + lineLength (drop at text));
@@ -168,6 +186,7 @@ results-are-equal = record {
   climb = λ parents. equal-results-in-room (values (depth (numberIn parents)) 0 (length parents)) (values (lineage (numberIn parents)) 0 (length parents));
   top = λ sets a b r₁ r₂ w p q. equal-results (topOf (w .0) a b) r₁ r₂ (p (w .0) (w .1)) (q (w .0) (w .1));
   «limit_flows» = λ descents deadlines order. equal-results (limitsOf descents deadlines (interval order));
+  allowed = λ deadline order. equal-results (deadline / interval order - 1);
   «constraint_at» = λ place parents sources sinks limits. equal-results (getD (siteEntries parents sources sinks limits) place blank);
   sequence = λ size parent N room room₁ room₂ r₁ r₂ p q. let placed = inOrder size parent N in
       equal-results-in-room (length placed) (placed ++ drop (length placed) room) r₁ r₂ room₁ room₂ (p .number, sequenced-room size parent N room room₁ r₁ p) (q .number, sequenced-room size parent N room room₂ r₂ q);
@@ -189,9 +208,18 @@ results-are-equal = record {
   write = λ s room. equal-results-in-room (written (checked s) (textOf s) (length room)) (writtenRoom (checked s) (textOf s) room);
   «plan_accepted» = λ s room. equal-results-in-room (outcomeAnswer s (planOf (siteOf s)) (length room)) (outcomeRoom s (planOf (siteOf s)) room);
   plan = λ s room. equal-results-in-room (answer s (length room)) (roomAfter s room);
+  «header_line» = λ r. equal-results (headerIn r);
+  «front_line» = λ rest. equal-results (frontIn rest);
+  «is_tag_whole» = λ rest len. equal-results (tagDigits rest len);
+  describes = λ rest len cluster. equal-results (tagDigits rest len && describesIt (take (22 + 2 * len) rest) cluster);
+  permits = λ s order. equal-results (permitted order (model.periods (siteOf s)));
+  «all_on_time» = λ s order starts. equal-results (not (someLate (siteOf s) order (numberIn starts)));
+  «check_accepted» = λ s plan. equal-results (planVerdict s (rows plan));
+  «check_plan» = λ s plan. equal-results (checkedPlan s plan);
   «cartheron_plan» = λ text room. equal-results-in-room (planNumber text (length room)) (planRoom text room);
   «cartheron_rewrite» = λ text room. equal-results-in-room (rewriteNumber text (length room)) (rewriteRoom text room);
   «cartheron_place» = λ text. equal-results (placeNumber text);
+  «cartheron_check» = λ text plan. equal-results (checkNumber text plan);
   «cartheron_line_start» = λ text line. equal-results (lineStart text line);
   «cartheron_line_length» = λ text line. equal-results (length (lineAt text line));
 }

@@ -27,12 +27,12 @@ use Rattle.site.specs.declared.Verdict.the-variants.{Accepted}
 use Rattle.site.specs.Records.{noCluster, noFlow, noSite, absent, sameTag, wrongParent, tagTaken}
 use Rattle.site.specs.Fields.{firstBad, headerVerdict, clusterVerdict, flowVerdict}
 use Rattle.records.specs.Check.{clusterChecked, eachOf, clustersVerdict, flowsVerdict, checked}
-use Rattle.plantext.specs.PlanText.{siteOf, planHeader, clusterLine, planLine, planLines, planText}
+use Rattle.plantext.specs.PlanText.{siteOf, planHeader, clusterLine, placedLine, placedText, planLine, planLines, planText}
 use Rattle.figures.specs.SiteLaws.{describes-sound}
 use Rattle.planner.specs.declared.Planned.{Planned}
 use Rattle.planner.specs.declared.Planned.the-variants.{Plan, Refused}
 use Rattle.planner.specs.Answers.{answer, roomAfter}
-use Rattle.exactness.specs.PlanRead.{startsIn}
+use Rattle.planlines.specs.PlanRead.{startsIn}
 
 -- ---- the contract
 
@@ -150,7 +150,7 @@ record Worked : Type 0 where
   twins-cut : answer (cutTags twins) 123 ≡ Refused 6 3 255
 
 worked : Worked
-unfolding P1 P3 P4 P5 P6 P7 P8 lone pair chain twins tall tallChild crowded noSite firstFlow cutTags answer roomAfter checked clustersVerdict flowsVerdict eachOf clusterChecked headerVerdict clusterVerdict flowVerdict firstBad wrongParent tagTaken sameTag every siteOf plan search candidate fits permitted isOrder withinAll symbols starts startIn sequence nextOnes next ready before solve depths settledWithin round relax allOkay okay constraints descent treeConstraints allowed top topWithin depth total totalWithin values leastWhere allBelow sumBelow planText planHeader planLines planLine clusterLine linesOf fieldBytes numberBytes lineOf hexes hexOf handed startsIn rows digit byteAt numberAt
+unfolding P1 P3 P4 P5 P6 P7 P8 lone pair chain twins tall tallChild crowded noSite firstFlow cutTags answer roomAfter checked clustersVerdict flowsVerdict eachOf clusterChecked headerVerdict clusterVerdict flowVerdict firstBad wrongParent tagTaken sameTag every siteOf plan search candidate fits permitted isOrder withinAll symbols starts startIn sequence nextOnes next ready before solve depths settledWithin round relax allOkay okay constraints descent treeConstraints allowed top topWithin depth total totalWithin values leastWhere allBelow sumBelow planText placedText planHeader planLines planLine placedLine clusterLine linesOf fieldBytes numberBytes lineOf hexes hexOf handed startsIn rows digit byteAt numberAt
 worked = record {
   P1-planned = refl;
   P1-begins = refl;

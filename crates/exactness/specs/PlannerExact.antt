@@ -33,7 +33,7 @@ use Rattle.planner.specs.declared.Planned.{Planned}
 use Rattle.planner.specs.declared.Planned.the-variants.{Plan, Refused as RefusedPlan}
 use Rattle.planner.specs.Answers.{answer, roomAfter}
 use Rattle.planner.specs.PlanSize.{planSize, plan-text-size}
-use Rattle.exactness.specs.PlanRead.{orderIn, linesFor, startsIn}
+use Rattle.planlines.specs.PlanRead.{orderIn, linesFor, startsIn}
 use Rattle.exactness.specs.PlanReadLaws.{order-in-plan-text, starts-in-plan-text, one-line-each, no-other-line}
 use Rattle.exactness.specs.SameStarts.{same-starts-place}
 

@@ -1,2 +1,2 @@
-// Theorems alone, in specs/: PlannerExact, CallerExact, RewriteExact, PlaceExact, Impostors and
-// EqualResults.
+// Theorems alone, in specs/: PlannerExact, CallerExact, RewriteExact, PlaceExact, CheckExact,
+// WorkedChecks, Impostors and EqualResults.

@@ -25,19 +25,26 @@ filled-is-map g h l xs d n room e same =
     let below : i < n = omega arith in
     getD-take n (filled g l n) i (h d) below ∙ filled-at g l n (h d) room i below ∙ same i below ∙ sym (List·getD-map h xs i d))
 
+-- the required periods of the first n flows: how many there are, and which stands at a place
+module _ (flows : List Flow) (n : ℕ) (h : n ≤ length flows) where
+  pub periods-counted : length (periodsOf flows n) ≡ n
+  unfolding periodsOf
+  periods-counted = length-map (take n flows) (λ (f : Flow). f .period) ∙ length-take-le n flows h
+
+  pub period-at : (i : ℕ) → i < n → at (periodsOf flows n) i ≡ getD flows i noFlow .period
+  unfolding periodsOf
+  period-at i l = List·getD-map (λ (f : Flow). f .period) (take n flows) i noFlow ∙ ap (λ (f : Flow). f .period) (getD-take n flows i noFlow l)
+
 -- the least of p and the periods of the flows from i on
 module _ (flows : List Flow) (n i p : ℕ) where
   pub shortest-more : i < n → n ≤ length flows → (q : ℕ) → q ≡ min p (getD flows i noFlow .period) → shortest q (drop (i + 1) (periodsOf flows n)) ≡ shortest p (drop i (periodsOf flows n))
-  unfolding periodsOf
   shortest-more l h q e =
-      let number : length (periodsOf flows n) ≡ n = length-map (take n flows) (λ (f : Flow). f .period) ∙ length-take-le n flows h in
-      let here : at (periodsOf flows n) i ≡ getD flows i noFlow .period =
-      List·getD-map (λ (f : Flow). f .period) (take n flows) i noFlow ∙ ap (λ (f : Flow). f .period) (getD-take n flows i noFlow l) in
-      ap (λ (x : ℕ). shortest x (drop (i + 1) (periodsOf flows n))) (e ∙ ap (min p) (sym here)) ∙ sym (shortest-next p (periodsOf flows n) i (omega arith))
+      ap (λ (x : ℕ). shortest x (drop (i + 1) (periodsOf flows n))) (e ∙ ap (min p) (sym (period-at flows n h i l)))
+      ∙ sym (shortest-next p (periodsOf flows n) i (omega (arith, periods-counted flows n h)))
 
   pub shortest-ends : n ≤ i → n ≤ length flows → shortest p (drop i (periodsOf flows n)) ≡ p
-  unfolding periodsOf shortest
-  shortest-ends l h = rw (drop-of-length-le (periodsOf flows n) {i = i} (omega (arith, length-map (take n flows) (λ (f : Flow). f .period), length-take-le n flows h)))
+  unfolding shortest
+  shortest-ends l h = rw (drop-of-length-le (periodsOf flows n) {i = i} (omega (arith, periods-counted flows n h)))
 
 -- a tree's depths at the front of an array, and a flow between two clusters, with the top z of its path
 module _ (ps levels : List ℕ) (tree : Tree (at ps) (length ps)) (deep : take (length ps) levels ≡ values (depth (at ps)) 0 (length ps)) where

@@ -80,11 +80,11 @@ module _ (s : Site) (accepted : checked s ≡ Accepted) where
   unfolding siteOf
   parent-at = field-at s (λ k. k .parent)
 
-  flow-at : (i : ℕ) → i < f → getD (m .flows) i (modelFlow noFlow) ≡ modelFlow (getD (s .flows) i noFlow)
+  pub flow-at : (i : ℕ) → i < f → getD (m .flows) i (modelFlow noFlow) ≡ modelFlow (getD (s .flows) i noFlow)
   unfolding siteOf
   flow-at i l = List·getD-map modelFlow (take f (s .flows)) i noFlow ∙ ap modelFlow (getD-take f (s .flows) i noFlow l)
 
-  periods-are : periodsOf (s .flows) f ≡ model.periods m
+  pub periods-are : periodsOf (s .flows) f ≡ model.periods m
   unfolding siteOf periodsOf
   periods-are = map-of-map (take f (s .flows))
 

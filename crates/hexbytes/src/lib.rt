@@ -26,7 +26,7 @@ fn pair(high: u8, low: u8) -> u8
 }
 
 // Whether the n characters from `at` on are digits.
-fn are_digits(line: &[u8], at: usize, n: usize) -> bool
+pub fn are_digits(line: &[u8], at: usize, n: usize) -> bool
     requires { ⌜ at + n ≤ length (now line) ⌝ }
     ensures { λ r. ⌜ r ≡ every n (λ j. isDigit (getD (now (line .entry)) (at + j) 0)) ⌝ }
 {

@@ -20,7 +20,7 @@ use Rattle.site.specs.declared.Verdict.the-variants.{Accepted}
 use Rattle.site.specs.Records.{absent}
 use Rattle.records.specs.Check.{checked}
 use Rattle.records.specs.Checked.{checked-unrefused, counts-in, site-cluster-in}
-use Rattle.plantext.specs.PlanText.{siteOf, planLine, planLines, planText}
+use Rattle.plantext.specs.PlanText.{siteOf, placedLine, planLine, planLines, planText}
 use Rattle.plantext.specs.PlanTextLaws.{cluster-length, text-length}
 use Rattle.figures.specs.SiteLaws.{clusters-counted, describes-sound}
 
@@ -52,7 +52,7 @@ module _ (s : Site) (accepted : checked s ≡ Accepted) where
       )
 
   pub plan-text-size : (order : ℕ) (sequence : List ℕ) → plan (siteOf s) ≡ planned order sequence → length (planText s order sequence) ≡ planSize s
-  unfolding planSize planLines planLine
+  unfolding planSize planLines planLine placedLine
   plan-text-size order sequence e =
       let n : ℕ = s .«cluster_count» in
       let size : ℕ → ℕ = λ c. length (lineOf (planLine s sequence c)) in

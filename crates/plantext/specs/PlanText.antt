@@ -38,18 +38,25 @@ planHeader order n = fieldBytes (1 ∷ 1 ∷ 1 ∷ 1 ∷ []) (129 ∷ 1 ∷ orde
 unfoldable pub clusterLine : ℕ → ℕ → ℕ → Tag → List ℕ
 clusterLine c start len tag = fieldBytes (1 ∷ 1 ∷ 4 ∷ 4 ∷ 1 ∷ []) (130 ∷ c ∷ start ∷ len ∷ tag .len ∷ []) ++ take (tag .len) (tag .bytes)
 
--- the line of cluster c, in the plan that places the clusters in that sequence
-unfoldable pub planLine : Site → List ℕ → ℕ → List ℕ
-planLine s sequence c =
+-- the line of cluster c, where the clusters start so
+unfoldable pub placedLine : Site → (ℕ → ℕ) → ℕ → List ℕ
+placedLine s start c =
     let cluster : Cluster = getD (s .clusters) c absent in
-    clusterLine c (starts (siteOf s) sequence c) (portion (cluster .order)) (cluster .tag)
+    clusterLine c (start c) (portion (cluster .order)) (cluster .tag)
 
--- a line for each cluster, in order of start
+-- the plan text of an order, of starts, and of the clusters in the sequence of their lines
+unfoldable pub placedText : Site → ℕ → (ℕ → ℕ) → List ℕ → List ℕ
+placedText s order start sequence = lineOf (planHeader order (s .«cluster_count»)) ++ linesOf (placedLine s start) sequence
+
+-- the same of a plan, which places the clusters in that sequence end to end: a cluster's line, all of them, and the text
+unfoldable pub planLine : Site → List ℕ → ℕ → List ℕ
+planLine s sequence c = placedLine s (starts (siteOf s) sequence) c
+
 unfoldable pub planLines : Site → List ℕ → List ℕ
 planLines s sequence = linesOf (planLine s sequence) sequence
 
 unfoldable pub planText : Site → ℕ → List ℕ → List ℕ
-planText s order sequence = lineOf (planHeader order (s .«cluster_count»)) ++ planLines s sequence
+planText s order sequence = placedText s order (starts (siteOf s) sequence) sequence
 
 -- each is one of n clusters, and none comes twice or after the earlier ones
 abbrev pub Fresh : ℕ → List ℕ → List ℕ → Type 0

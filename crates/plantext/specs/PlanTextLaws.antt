@@ -11,8 +11,8 @@ use lib.Seq.{take-suc, split-at, getD-take, take-length, length-take-le}
 use Rattle.hexline.specs.Digits.{numberBytes, fieldBytes, lineOf}
 use Rattle.hexroom.specs.Listing.{linesOf}
 use Rattle.hexroom.specs.Room.{put, put-append, line-length}
-use Rattle.model.specs.Counting.{at, member, sumOver}
-use Rattle.model.specs.CountingLaws.{or-neither}
+use Rattle.model.specs.Counting.{Each, at, member, sumOver}
+use Rattle.model.specs.CountingLaws.{each-imply, or-neither}
 use Rattle.model.specs.Orders.{portion}
 use Rattle.model.specs.Sequences.{startIn, starts}
 use Rattle.model.specs.SequenceLaws.{start-is-running-sum}
@@ -22,7 +22,7 @@ use Rattle.site.specs.declared.Site.{Site}
 use Rattle.site.specs.declared.Tag.{Tag}
 use Rattle.site.specs.Records.{absent}
 use Rattle.records.specs.Checked.{ClusterIn, checked-unrefused, counts-in, site-cluster-in}
-use Rattle.plantext.specs.PlanText.{siteOf, planHeader, clusterLine, planLine, planLines, planText, Fresh, Placed}
+use Rattle.plantext.specs.PlanText.{siteOf, planHeader, clusterLine, placedLine, placedText, planLine, planLines, planText, Fresh, Placed}
 
 pub header-length : (order n : ℕ) → length (lineOf (planHeader order n)) ≡ 9
 unfolding planHeader fieldBytes numberBytes
@@ -41,6 +41,12 @@ fresh-at n earlier (x ∷ xs) (suc i) f l =
     let r = fresh-at n (x ∷ earlier) xs i (f .2) (omega arith) in
     let q = or-neither (eqb (at xs i) x) (member (at xs i) earlier) (r .1) in
     (r .0, q .1, rw (q .0) (r .2))
+
+-- the same of each of them
+pub fresh-each : (n : ℕ) (earlier xs : List ℕ) → Fresh n earlier xs → Each (λ c. (c < n) × (member c earlier ≡ false)) xs
+fresh-each n earlier [] f = tt
+fresh-each n earlier (x ∷ xs) f =
+    ((f .0, f .1), each-imply xs (λ c here. (here .0, or-neither (eqb c x) (member c earlier) (here .1) .1)) (fresh-each n (x ∷ earlier) xs (f .2)))
 
 sum-of-one-more : (f : ℕ → ℕ) (xs : List ℕ) (x : ℕ) → sumOver f (xs ++ (x ∷ [])) ≡ sumOver f xs + f x
 unfolding sumOver
@@ -62,14 +68,14 @@ module _ (s : Site) where
   lines-all xs = ap (linesOf (planLine s xs)) (take-length xs)
 
   pub text-length : (order : ℕ) (xs : List ℕ) → length (planText s order xs) ≡ 9 + length (planLines s xs)
-  unfolding planText
+  unfolding planText placedText planLines planLine
   text-length order xs =
       let header : List ℕ = lineOf (planHeader order (s .«cluster_count»)) in
       length-append header (planLines s xs) ∙ omega (arith, header-length order (s .«cluster_count»))
 
   pub text-put : (room : List ℕ) (order a : ℕ) (xs : List ℕ) → a ≡ length (lineOf (planHeader order (s .«cluster_count»)))
       → put (put room 0 (lineOf (planHeader order (s .«cluster_count»)))) a (planLines s xs) ≡ put room 0 (planText s order xs)
-  unfolding planText
+  unfolding planText placedText planLines planLine
   text-put room order a xs e = put-append room 0 a (lineOf (planHeader order (s .«cluster_count»))) (planLines s xs) (omega arith)
 
   -- cluster i of the sequence, the clusters before it being placed
@@ -100,5 +106,5 @@ module _ (s : Site) where
 
     pub line-here : (index start len : ℕ) → index ≡ c → start ≡ sumOver (portionOf (siteOf s)) (take i xs) → len ≡ portion (cluster .order)
         → clusterLine c start len (getD (s .clusters) index absent .tag) ≡ planLine s xs c
-    unfolding planLine
+    unfolding planLine placedLine
     line-here index start len e f g = rw (e, f, g, start-here)

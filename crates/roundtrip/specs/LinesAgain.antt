@@ -47,10 +47,18 @@ joined-rows (b ∷ t) = elim (decide (eqb b 10)) [
   | inr q ↦ rw q (joined-onto b (rows t) ∙ ap (λ (l : List ℕ). b ∷ l) (joined-rows t))
 ]
 
+-- a row that is well formed is the line of its bytes
+pub row-again : (most : ℕ) (r : Row) → WellFormed most r → (bs : List ℕ) (rest : List Row) → bs ≡ bytesOf (r .chars) → joined (r ∷ rest) ≡ lineOf bs ++ joined rest
+unfolding joined lineOf
+row-again most r w bs rest e =
+    let l : List ℕ = r .chars in
+    let same : hexes bs ≡ l = ap hexes e ∙ encode-decode l (w .digits) (w .even) in
+    rw (same, w .ended, append-assoc l (10 ∷ []) (joined rest))
+
 -- ---- the bytes of the record that a line spells
 
 -- a line that is all fields
-fields-whole : (l ws : List ℕ) → length l / 2 ≡ total ws → fieldBytes ws (fieldsAt l 0 ws) ≡ bytesOf l
+pub fields-whole : (l ws : List ℕ) → length l / 2 ≡ total ws → fieldBytes ws (fieldsAt l 0 ws) ≡ bytesOf l
 fields-whole l ws e =
     let long : length (bytesOf l) ≡ total ws = bytes-length l ∙ e in
     let all = fields-again l ws 0 (omega arith) in
@@ -65,22 +73,23 @@ pub flow-again : (l : List ℕ) → byteAt l 0 ≡ 3 → length l / 2 ≡ 11 →
 unfolding flowBytes flowOf fieldsAt total
 flow-again l kind e = simp (number-one, kind) at (fields-whole l flowWidths e)
 
-tag-again : (l : List ℕ) (m : ℕ) → m ≤ 64 → length l / 2 ≡ 4 + m → take m (tagAt l 4 m .bytes) ≡ drop 4 (bytesOf l)
+-- a tag that begins at byte k and ends the line
+pub tag-again : (l : List ℕ) (k m : ℕ) → m ≤ 64 → length l / 2 ≡ k + m → take m (tagAt l k m .bytes) ≡ drop k (bytesOf l)
 unfolding tagAt
-tag-again l m short e =
-    let byte : ℕ → ℕ = λ i. byteAt l (4 + i) in
+tag-again l k m short e =
+    let byte : ℕ → ℕ = λ i. byteAt l (k + i) in
     let tag : List ℕ = filled byte (replicate 64 0) m in
     let full : length tag ≡ 64 = filled-length byte (replicate 64 0) m ∙ length-replicate {A = ℕ} 64 0 in
     let long : length (take m tag) ≡ m = length-take-le m tag (omega arith) in
-    ext-getD 0 (take m tag) (drop 4 (bytesOf l)) (omega (arith, length-drop 4 (bytesOf l), bytes-length l))
+    ext-getD 0 (take m tag) (drop k (bytesOf l)) (omega (arith, length-drop k (bytesOf l), bytes-length l))
     (λ i p. getD-take m tag i 0 (omega arith)
     ∙ filled-at byte (replicate 64 0) m 0 (omega (arith, length-replicate {A = ℕ} 64 0)) i (omega arith)
-    ∙ sym (getD-drop 4 (bytesOf l) i 0 ∙ bytes-at l (4 + i) (omega (arith, bytes-length l))))
+    ∙ sym (getD-drop k (bytesOf l) i 0 ∙ bytes-at l (k + i) (omega (arith, bytes-length l))))
 
 pub cluster-again : (l : List ℕ) → byteAt l 0 ≡ 2 → byteAt l 3 ≤ 64 → length l / 2 ≡ 4 + byteAt l 3 → clusterBytes (clusterOf l) ≡ bytesOf l
 unfolding clusterBytes clusterOf tagAt fieldsAt total
 cluster-again l kind short e =
-    rw (tag-again l (byteAt l 3) short e)
+    rw (tag-again l 4 (byteAt l 3) short e)
     (simp (number-one, kind) at (fields-again l clusterWidths 0 (omega (arith, bytes-length l))))
 
 -- ---- what a line that is taken says of itself
@@ -114,11 +123,7 @@ module _ (k n f : ℕ) (cs : List Cluster) (r : Row) (z : lineVerdict k n f cs r
 
   -- it is the line of its bytes
   pub line-again : (bs : List ℕ) (rest : List Row) → bs ≡ bytesOf l → joined (r ∷ rest) ≡ lineOf bs ++ joined rest
-  unfolding joined lineOf
-  line-again bs rest e =
-      let w = taken-well in
-      let same : hexes bs ≡ l = ap hexes e ∙ encode-decode l (w .digits) (w .even) in
-      rw (same, w .ended, append-assoc l (10 ∷ []) (joined rest))
+  line-again = row-again 136 r taken-well
 
   pub taken-header : d ≡ 1 → (byteAt l 0 ≡ 1) × (headerVerdict k (byteAt l 1) (byteAt l 2) (byteAt l 3) ≡ Accepted)
   unfolding fieldsVerdict

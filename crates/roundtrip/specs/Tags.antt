@@ -1,14 +1,15 @@
 -- Two tags are the same exactly if their lengths are equal and so is every byte up to that length (docs/FORMATS.md, "Site text"). So any byte up to the length tells
 -- two tags apart; two tags of the pump hall that agree in 16 bytes and differ in the 17th are worked through.
-use mathlib.Core.Path.{_≡_, refl}
+use mathlib.Core.Path.{_≡_, refl, sym, _∙_}
 use mathlib.Core.Bool.{Bool, true, false, _&&_, and-false}
 use mathlib.Core.List.{List, [], _∷_, _++_}
 use mathlib.Core.Logic.{_↔_}
-use Prim.Native.Nat.{ℕ, _-_, _<_}
+use Prim.Native.Nat.{ℕ, _-_, _≤_, _<_}
 use Prim.Native.Char.{code}
 use Prim.Native.String.{String}
 use native.Mathlib.Omega.{arith}
 use lib.ListN.{length, getD, take, replicate}
+use lib.Seq.{ext-getD, getD-take, length-take-le}
 use lib.Dec.{eqb}
 use borrow.Author.Tests.{eq-eqb, ne-eqb, eqb-true}
 use Rattle.hexline.specs.Loops.{every, every-all, every-at, every-fails, filled}
@@ -36,6 +37,16 @@ module _ (a b : Tag) where
     (λ e. let h = both-hold (eqb (a .len) (b .len)) (every (a .len) agree) e in (eqb-true _ _ (h .0), λ i l. eqb-true _ _ (every-at agree (a .len) i (h .1) l))),
     (λ h. rw (eq-eqb _ _ (h .0), every-all agree (a .len) (λ i l. eq-eqb _ _ (h .1 i l)))),
   )
+
+  -- so the bytes that count are the same list
+  pub same-tag-same-bytes : sameTag a b ≡ true → a .len ≤ length (a .bytes) → b .len ≤ length (b .bytes) → take (a .len) (a .bytes) ≡ take (b .len) (b .bytes)
+  same-tag-same-bytes e p q =
+      let h = same-tag-exactly .0 e in
+      let m : length (take (a .len) (a .bytes)) ≡ a .len = length-take-le (a .len) (a .bytes) p in
+      let n : length (take (b .len) (b .bytes)) ≡ b .len = length-take-le (b .len) (b .bytes) q in
+      let same : a .len ≡ b .len = h .0 in
+      ext-getD 0 (take (a .len) (a .bytes)) (take (b .len) (b .bytes)) (m ∙ same ∙ sym n)
+      (λ i l. getD-take (a .len) (a .bytes) i 0 (omega arith) ∙ h .1 i (omega arith) ∙ sym (getD-take (b .len) (b .bytes) i 0 (omega arith)))
 
   -- a byte up to the length tells two tags apart
   pub other-byte-other-tag : (i : ℕ) → i < a .len → (getD (a .bytes) i 0 ≡ getD (b .bytes) i 0 → ⊥) → sameTag a b ≡ false

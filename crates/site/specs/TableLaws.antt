@@ -1,7 +1,7 @@
 -- Laws of the table: which kind is due, what it means that no test holds, and the line reader's answer test by test.
 use mathlib.Core.Path.{_≡_, refl, sym, _∙_}
 use mathlib.Core.Bool.{Bool, true, false, _||_}
-use mathlib.Core.List.{List, [], _∷_, _++_}
+use mathlib.Core.List.{List, [], _∷_, _++_, map}
 use mathlib.Core.Logic.{_⊎_, inl, inr}
 use Prim.Native.Nat.{ℕ, _+_, _≤_, _<_}
 use native.Mathlib.Omega.{arith}
@@ -10,7 +10,9 @@ use borrow.Author.Tests.{leb-true, leb-false, eq-eqb, ne-eqb}
 use Rattle.hexline.specs.Loops.{decide}
 use Rattle.hexline.specs.Digits.{between, byteAt}
 use Rattle.hexline.specs.DigitLaws.{between-true}
-use Rattle.hexline.specs.Lines.{Row, malformed}
+use Rattle.hexline.specs.Lines.{Row, anyOf, malformed}
+use Rattle.model.specs.Counting.{Each}
+use Rattle.model.specs.CountingLaws.{or-neither}
 use Rattle.site.specs.declared.Cluster.{Cluster}
 use Rattle.site.specs.declared.Entry.the-variants.{Refused as RefusedLine}
 use Rattle.site.specs.declared.Verdict.{Verdict}
@@ -86,11 +88,17 @@ pub record Passed (k n f : ℕ) (cs : List Cluster) (r : Row) : Type 0 where
   pub below : misplaced (due k n f) k (r .chars) ≡ false
   pub alone : repeated (due k n f) k cs (r .chars) ≡ false
 
-abbrev AllAccept : List Verdict → Type 0
+-- no test of the elements of a list holds
+pub none-holds : {A : Type 0} (test : A → Bool) (xs : List A) → anyOf (map test xs) ≡ false → Each (λ x. test x ≡ false) xs
+none-holds test [] e = tt
+none-holds test (x ∷ xs) e = let h = or-neither (test x) (anyOf (map test xs)) e in (h .0, none-holds test xs (h .1))
+
+-- no verdict of a list refuses
+abbrev pub AllAccept : List Verdict → Type 0
 AllAccept [] = Unit {0}
 AllAccept (v ∷ vs) = (v ≡ Accepted) × AllAccept vs
 
-all-accept : (vs : List Verdict) → firstOf vs ≡ Accepted → AllAccept vs
+pub all-accept : (vs : List Verdict) → firstOf vs ≡ Accepted → AllAccept vs
 all-accept [] e = tt
 all-accept (Accepted ∷ vs) e = (refl, all-accept vs e)
 all-accept (Refused m k p ∷ vs) e = absurd (let z : _≡_ {A = ℕ} 0 1 = cc in omega arith)

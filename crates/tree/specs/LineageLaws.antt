@@ -12,7 +12,7 @@ use lib.ListN.{length}
 use lib.Pow.{pow-pos, pow-mono}
 use borrow.Author.Tests.{ltb-true, ltb-false, eqb-true, eqb-false}
 use Rattle.model.specs.Counting.{at, values}
-use Rattle.model.specs.CountingLaws.{passes-or-fails, values-at}
+use Rattle.model.specs.CountingLaws.{passes-or-fails, values-length, values-at}
 use Rattle.model.specs.Trees.{Tree, total, top}
 use Rattle.model.specs.TreeLaws.{total-root, total-step, top-same, top-first-up, top-second-up}
 use Rattle.tree.specs.Lineage.{lineage, Lineages}
@@ -87,6 +87,12 @@ module _ (parent : ℕ → ℕ) (n : ℕ) (tree : Tree parent n) where
   -- the common ancestors of two clusters are their top and its ancestors
   pub lineage-shared : (a b : ℕ) → a < n → b < n → bitAnd (lineage parent a) (lineage parent b) ≡ lineage parent (top parent a b)
   lineage-shared a b la lb = shared-within (a + b) a b (omega arith) la lb
+
+-- the lineages of a list of parents, each at its place
+pub lineages-are : (ps sets : List ℕ) → Tree (at ps) (length ps) → sets ≡ values (lineage (at ps)) 0 (length ps) → Lineages (at ps) sets
+lineages-are ps sets tree e =
+    let same : length sets ≡ length ps = ap length e ∙ values-length (lineage (at ps)) 0 (length ps) in
+    record { tree = rw same tree; each = e ∙ ap (values (lineage (at ps)) 0) (sym same) }
 
 -- the highest of what two lineages share, as a machine finds it in numbers of 64 bits
 module _ (parent : ℕ → ℕ) (sets : List ℕ) (h : Lineages parent sets) (few : length sets ≤ 64) (a b : ℕ) (la : a < length sets) (lb : b < length sets) where

@@ -11,7 +11,7 @@ use Rattle.hexroom.specs.Listing.{Putting}
 use Rattle.model.specs.Counting.{sumBelow, sumOver}
 use Rattle.model.specs.Sequences.{starts}
 use Rattle.model.specs.Sites.{portionOf}
-use Rattle.plantext.specs.PlanText.{siteOf, planLine}
+use Rattle.plantext.specs.PlanText.{siteOf, placedLine, planLine}
 use Rattle.site.specs.declared.Cluster.{Cluster}
 use Rattle.site.specs.declared.Site.{Site}
 use Rattle.site.specs.declared.Verdict.the-variants.{Accepted}
@@ -27,7 +27,7 @@ flowless clusters n = record { clusters = clusters; flows = []; «cluster_count�
 
 module _ (s : Site) (n : ℕ) (e : n ≡ s .«cluster_count») where
   pub same-lines : (sequence : List ℕ) → planLine (flowless (s .clusters) n) sequence ≡ planLine s sequence
-  unfolding planLine siteOf starts
+  unfolding planLine placedLine siteOf starts
   same-lines sequence = rw e
 
   pub same-portions : portionOf (siteOf (flowless (s .clusters) n)) ≡ portionOf (siteOf s)
