@@ -1,8 +1,6 @@
 /* Figures and advice for a site that reads and cannot be planned. */
 #include "tell.h"
 
-#define LARGEST_ORDER 14
-
 /* The smallest order that the portions fit; one more than the largest where none does. */
 static int smallest_fitting(uint32_t sum)
 {
@@ -30,15 +28,17 @@ static void print_wanted(FILE *words, uint32_t sum)
     fputc('\n', words);
 }
 
-/* The flow with the shortest required period; the first of several, and -1 without flows. */
-static int most_frequent(const struct site *site)
+void print_shortest_period(FILE *words, const struct site *site)
 {
-    int shortest = site->flows > 0 ? 0 : -1;
+    int shortest = most_frequent(site);
 
-    for (int i = 1; i < site->flows; i++)
-        if (site->flow[i].period < site->flow[shortest].period)
-            shortest = i;
-    return shortest;
+    if (shortest < 0)
+        return;
+    fputs("  the shortest required period is ", words);
+    print_time(words, site->flow[shortest].period);
+    fprintf(words, ", of flow %d: ", shortest);
+    print_ends(words, site, &site->flow[shortest]);
+    fputc('\n', words);
 }
 
 void advise_no_fit(FILE *words, const struct site *site)
@@ -47,13 +47,7 @@ void advise_no_fit(FILE *words, const struct site *site)
     int order = smallest_fitting(sum_of_portions(site));
 
     print_wanted(words, sum_of_portions(site));
-    if (shortest >= 0) {
-        fputs("  the shortest required period is ", words);
-        print_time(words, site->flow[shortest].period);
-        fprintf(words, ", of flow %d: ", shortest);
-        print_ends(words, site, &site->flow[shortest]);
-        fputc('\n', words);
-    }
+    print_shortest_period(words, site);
     int too_long = order > LARGEST_ORDER;
     int too_frequent = shortest >= 0 && site->flow[shortest].period < symbols_of(0);
     if (too_long)

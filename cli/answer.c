@@ -1,6 +1,7 @@
-/* From a site text to what a command prints. */
+/* From texts to what a command prints. */
 #include "answer.h"
 #include "cartheron.h"
+#include "check.h"
 #include "picture.h"
 #include "tables.h"
 #include "tell.h"
@@ -13,8 +14,8 @@ static int print_plan(FILE *out, const struct request *request, const uint8_t *r
     struct site site;
     struct plan plan;
 
-    site_of_text(&site, request->text.bytes, request->text.length);
-    plan_of_text(&plan, room, length);
+    site_of_text(&site, request->text);
+    plan_of_text(&plan, (struct part){room, length});
     if (request->command == PICTURE)
         return picture(out, &site, &plan);
     if (request->json)
@@ -28,14 +29,15 @@ static void print_site(FILE *out, const struct request *request)
 {
     struct site site;
 
-    site_of_text(&site, request->text.bytes, request->text.length);
+    site_of_text(&site, request->text);
     if (request->json)
         json_site(out, &site);
     else
         show_site(out, paint_for(request->colour_out), &site);
 }
 
-enum status answer(FILE *out, FILE *words, const struct request *request)
+/* Answers a command that takes a site alone. */
+static enum status answer_site(FILE *out, FILE *words, const struct request *request)
 {
     uint8_t room[CARTHERON_LONGEST_SITE];
     int reads_only = request->command == SITE || request->command == REWRITE;
@@ -55,4 +57,9 @@ enum status answer(FILE *out, FILE *words, const struct request *request)
     else
         failed = print_plan(out, request, room, length) != 0;
     return failed || ferror(out) ? FAILED : ANSWERED;
+}
+
+enum status answer(FILE *out, FILE *words, const struct request *request)
+{
+    return request->command == CHECK ? check(out, words, request) : answer_site(out, words, request);
 }

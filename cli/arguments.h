@@ -2,12 +2,13 @@
 #ifndef CLI_ARGUMENTS_H
 #define CLI_ARGUMENTS_H
 
-enum command { NO_COMMAND, PLAN, SHOW, SITE, PICTURE, REWRITE };
+enum command { NO_COMMAND, PLAN, SHOW, SITE, PICTURE, REWRITE, CHECK };
 
 struct arguments {
     enum command command;
     int help, version, json;
-    const char *input;  /* NULL for standard input */
+    const char *site;   /* NULL for standard input */
+    const char *plan;   /* to be checked; likewise */
     const char *output; /* NULL for standard output */
     const char *wrong;  /* why the command was used wrongly, or NULL; said of .argument where that is set */
     const char *argument;

@@ -12,12 +12,12 @@ int prepare_files(void)
     return signal(SIGPIPE, SIG_IGN) == SIG_ERR || signal(SIGXFSZ, SIG_IGN) == SIG_ERR ? -1 : 0;
 }
 
-/* Reads from an open file to its end or to MOST_READ bytes. */
-static int read_all(int fd, uint8_t bytes[MOST_READ], size_t *length)
+/* Reads from an open file to its end or to the most bytes. */
+static int read_all(int fd, uint8_t *bytes, size_t most, size_t *length)
 {
     *length = 0;
-    while (*length < MOST_READ) {
-        ssize_t got = read(fd, bytes + *length, MOST_READ - *length);
+    while (*length < most) {
+        ssize_t got = read(fd, bytes + *length, most - *length);
         if (got == 0)
             return 0;
         if (got > 0)
@@ -28,14 +28,14 @@ static int read_all(int fd, uint8_t bytes[MOST_READ], size_t *length)
     return 0;
 }
 
-int read_file(const char *file, uint8_t bytes[MOST_READ], size_t *length)
+int read_file(const char *file, uint8_t *bytes, size_t most, size_t *length)
 {
     if (file == NULL)
-        return read_all(STDIN_FILENO, bytes, length);
+        return read_all(STDIN_FILENO, bytes, most, length);
     int fd = open(file, O_RDONLY | O_NOCTTY | O_CLOEXEC);
     if (fd == -1)
         return -1;
-    int ended = read_all(fd, bytes, length), why = errno;
+    int ended = read_all(fd, bytes, most, length), why = errno;
     close(fd);
     errno = why;
     return ended;

@@ -5,15 +5,18 @@
 #include <stddef.h>
 #include <stdint.h>
 
-/* The verdict on a text rests on its first so many bytes (docs/FORMATS.md, "The program and the C functions"). */
+/* The verdict on a site text rests on its first so many bytes (docs/FORMATS.md, "The program and the C functions"). */
 #define MOST_READ 11859
+
+/* The verdict on a plan text may rest on its last byte, but the longest plan has 9,673 bytes. So many are taken. */
+#define MOST_PLAN_READ (4u << 20)
 
 /* Makes a closed pipe and a file that may not grow errors, which would otherwise end the program. Returns 0, or
  * -1 with errno. */
 int prepare_files(void);
 
-/* Reads a file, NULL for standard input, to its end or to MOST_READ bytes. Returns 0, or -1 with errno. */
-int read_file(const char *file, uint8_t bytes[MOST_READ], size_t *length);
+/* Reads a file, NULL for standard input, to its end or to the most bytes. Returns 0, or -1 with errno. */
+int read_file(const char *file, uint8_t *bytes, size_t most, size_t *length);
 
 /* Writes all bytes to an open file. Returns 0, or -1 with errno. */
 int write_all(int fd, const char *bytes, size_t length);

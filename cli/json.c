@@ -55,13 +55,19 @@ static void end_list(FILE *out, int entries)
     fputs(entries == 0 ? "]" : "\n  ]", out);
 }
 
-void json_plan(FILE *out, const struct site *site, const struct plan *plan)
+/* Begins the object of a plan with what it is as a whole. */
+static void begin_plan(FILE *out, const struct site *site, const struct plan *plan)
 {
     uint32_t interval = interval_of(plan), active = sum_of_portions(site);
 
     fprintf(out, "{\n  \"symbol_microseconds\": 16,\n  \"beacon_order\": %d,\n  \"interval\": %u,\n"
                  "  \"active\": %u,\n  \"asleep\": %u",
             plan->order, (unsigned)interval, (unsigned)active, (unsigned)(interval - active));
+}
+
+/* Ends it with its clusters and flows. */
+static void end_plan(FILE *out, const struct site *site, const struct plan *plan)
+{
     begin_list(out, "clusters");
     for (int i = 0; i < site->clusters; i++) {
         separate(out, i);
@@ -74,10 +80,23 @@ void json_plan(FILE *out, const struct site *site, const struct plan *plan)
         separate(out, i);
         print_flow(out, site, i);
         fprintf(out, ", \"crossings\": %d, \"allowed\": %u}", crossings(site, plan, &site->flow[i]),
-                (unsigned)allowed(site->flow[i].deadline, interval));
+                (unsigned)allowed(site->flow[i].deadline, interval_of(plan)));
     }
     end_list(out, site->flows);
     fputs("\n}\n", out);
+}
+
+void json_plan(FILE *out, const struct site *site, const struct plan *plan)
+{
+    begin_plan(out, site, plan);
+    end_plan(out, site, plan);
+}
+
+void json_checked(FILE *out, const struct site *site, const struct plan *plan, int largest)
+{
+    begin_plan(out, site, plan);
+    fprintf(out, ",\n  \"largest_order\": %d", largest);
+    end_plan(out, site, plan);
 }
 
 void json_site(FILE *out, const struct site *site)

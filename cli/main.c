@@ -1,6 +1,6 @@
-/* cartheron: plans wireless sensor trees. Reads the command line and the site, and writes what comes of it. */
+/* cartheron: plans wireless sensor trees. Reads the command line and the files, and writes what comes of it. */
 #define _POSIX_C_SOURCE 200809L
-#include "answer.h"
+#include "check.h"
 #include "files.h"
 #include "tell.h"
 
@@ -96,6 +96,28 @@ static enum status used_wrongly(const struct arguments *arguments)
     return FAILED;
 }
 
+/* What a file is called in words. */
+static const char *name_of(const char *file)
+{
+    return file != NULL ? file : "standard input";
+}
+
+/* Reads the plan that is to be checked, in one byte more than is taken of it, so that a longer one is seen. Returns
+ * 0, or -1 with errno. */
+static int read_plan(const char *file, struct request *request)
+{
+    static uint8_t bytes[MOST_PLAN_READ + 1];
+
+    request->plan_name = name_of(file);
+    request->plan.bytes = bytes;
+    if (read_file(file, bytes, sizeof bytes, &request->plan.length) != 0)
+        return -1;
+    if (request->plan.length <= MOST_PLAN_READ || cut_plan(request->text, &request->plan) == 0)
+        return 0;
+    errno = EFBIG;
+    return -1;
+}
+
 int main(int argc, char **argv)
 {
     static uint8_t bytes[MOST_READ];
@@ -112,11 +134,13 @@ int main(int argc, char **argv)
     }
     request.command = arguments.command;
     request.json = arguments.json;
-    request.name = arguments.input != NULL ? arguments.input : "standard input";
+    request.name = name_of(arguments.site);
     request.colour_out = arguments.output == NULL && coloured(STDOUT_FILENO);
     request.colour_words = coloured(STDERR_FILENO);
     request.text.bytes = bytes;
-    if (read_file(arguments.input, bytes, &request.text.length) != 0)
+    if (read_file(arguments.site, bytes, sizeof bytes, &request.text.length) != 0)
         return cannot("read", request.name);
+    if (request.command == CHECK && read_plan(arguments.plan, &request) != 0)
+        return cannot("read", request.plan_name);
     return serve(&request, arguments.output);
 }

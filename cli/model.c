@@ -1,7 +1,6 @@
 /* A site and its plan as the command works on them. The texts were accepted or written by the library, so
  * every line is where docs/FORMATS.md puts it. */
 #include "model.h"
-#include "digits.h"
 
 #include <string.h>
 
@@ -15,51 +14,50 @@ static void tag_of_line(struct cluster *cluster, const uint8_t *line, size_t byt
     cluster->tag[cluster->tag_len] = '\0';
 }
 
-void site_of_text(struct site *site, const uint8_t *text, size_t len)
+void site_of_text(struct site *site, struct part text)
 {
-    const uint8_t *line = text;
+    struct part line;
 
     memset(site, 0, sizeof *site);
-    if (len == 0)
+    if (!take_line(&text, &line))
         return;
-    site->clusters = (int)number_at(line, 2, 1);
-    site->flows = (int)number_at(line, 3, 1);
-    line = next_line(line, HEADER_BYTES);
-    for (int i = 0; i < site->clusters; i++) {
+    site->clusters = (int)number_at(line.bytes, 2, 1);
+    site->flows = (int)number_at(line.bytes, 3, 1);
+    for (int i = 0; i < site->clusters && take_line(&text, &line); i++) {
         struct cluster *cluster = &site->cluster[i];
-        cluster->parent = (int)number_at(line, 1, 1);
-        cluster->order = (int)number_at(line, 2, 1);
-        cluster->tag_len = (int)number_at(line, 3, 1);
-        tag_of_line(cluster, line, CLUSTER_BYTES);
-        line = next_line(line, CLUSTER_BYTES + (size_t)cluster->tag_len);
+        cluster->parent = (int)number_at(line.bytes, 1, 1);
+        cluster->order = (int)number_at(line.bytes, 2, 1);
+        cluster->tag_len = (int)number_at(line.bytes, 3, 1);
+        tag_of_line(cluster, line.bytes, CLUSTER_BYTES);
     }
-    for (int i = 0; i < site->flows; i++) {
+    for (int i = 0; i < site->flows && take_line(&text, &line); i++) {
         struct flow *flow = &site->flow[i];
-        flow->source = (int)number_at(line, 1, 1);
-        flow->sink = (int)number_at(line, 2, 1);
-        flow->period = number_at(line, 3, 4);
-        flow->deadline = number_at(line, 7, 4);
-        line = next_line(line, FLOW_BYTES);
+        flow->source = (int)number_at(line.bytes, 1, 1);
+        flow->sink = (int)number_at(line.bytes, 2, 1);
+        flow->period = number_at(line.bytes, 3, 4);
+        flow->deadline = number_at(line.bytes, 7, 4);
     }
 }
 
-void plan_of_text(struct plan *plan, const uint8_t *text, size_t len)
+void add_cluster(struct plan *plan, const uint8_t *line)
 {
-    const uint8_t *line = text;
+    uint32_t number = number_at(line, 1, 1);
+
+    plan->sequence[plan->clusters++] = (int)number;
+    plan->start[number] = number_at(line, 2, 4);
+    plan->length[number] = number_at(line, 6, 4);
+}
+
+void plan_of_text(struct plan *plan, struct part text)
+{
+    struct part line;
 
     memset(plan, 0, sizeof *plan);
-    if (len == 0)
+    if (!take_line(&text, &line))
         return;
-    plan->order = (int)number_at(line, 2, 1);
-    int clusters = (int)number_at(line, 3, 1);
-    line = next_line(line, HEADER_BYTES);
-    for (int i = 0; i < clusters; i++) {
-        uint32_t number = number_at(line, 1, 1);
-        plan->sequence[i] = (int)number;
-        plan->start[number] = number_at(line, 2, 4);
-        plan->length[number] = number_at(line, 6, 4);
-        line = next_line(line, PLAN_CLUSTER_BYTES + number_at(line, 10, 1));
-    }
+    plan->order = (int)number_at(line.bytes, 2, 1);
+    while (take_line(&text, &line))
+        add_cluster(plan, line.bytes);
 }
 
 uint32_t symbols_of(int order)
@@ -70,6 +68,30 @@ uint32_t symbols_of(int order)
 uint32_t interval_of(const struct plan *plan)
 {
     return symbols_of(plan->order);
+}
+
+uint64_t end_of(const struct plan *plan, int cluster)
+{
+    return (uint64_t)plan->start[cluster] + plan->length[cluster];
+}
+
+uint32_t sum_of_portions(const struct site *site)
+{
+    uint32_t sum = 0;
+
+    for (int i = 0; i < site->clusters; i++)
+        sum += symbols_of(site->cluster[i].order);
+    return sum;
+}
+
+int most_frequent(const struct site *site)
+{
+    int shortest = site->flows > 0 ? 0 : -1;
+
+    for (int i = 1; i < site->flows; i++)
+        if (site->flow[i].period < site->flow[shortest].period)
+            shortest = i;
+    return shortest;
 }
 
 /* A parent has a lower number than its child, so of two clusters the one with the higher number is no
@@ -107,4 +129,12 @@ int crossings(const struct site *site, const struct plan *plan, const struct flo
 uint32_t allowed(uint32_t deadline, uint32_t interval)
 {
     return deadline >= interval ? deadline / interval - 1 : 0;
+}
+
+int next_late(const struct site *site, const struct plan *plan, int flow)
+{
+    while (flow < site->flows && (uint32_t)crossings(site, plan, &site->flow[flow]) <=
+                                     allowed(site->flow[flow].deadline, interval_of(plan)))
+        flow++;
+    return flow;
 }

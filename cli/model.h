@@ -2,9 +2,9 @@
 #ifndef CLI_MODEL_H
 #define CLI_MODEL_H
 
-#include <stddef.h>
-#include <stdint.h>
+#include "digits.h"
 
+#define LARGEST_ORDER 14
 #define MOST_CLUSTERS 64
 #define MOST_FLOWS 128
 #define MOST_TAG 64
@@ -30,18 +30,31 @@ struct site {
 
 struct plan {
     int order;
+    int clusters;                   /* how many the sequence has */
     int sequence[MOST_CLUSTERS];    /* the clusters in order of start */
     uint32_t start[MOST_CLUSTERS];  /* of each cluster by its number */
     uint32_t length[MOST_CLUSTERS];
 };
 
-/* The records of a site text that the library accepted, and of its plan text. */
-void site_of_text(struct site *site, const uint8_t *text, size_t len);
-void plan_of_text(struct plan *plan, const uint8_t *text, size_t len);
+/* The records of a site text that the library accepted, and of a plan text that it wrote. */
+void site_of_text(struct site *site, struct part text);
+void plan_of_text(struct plan *plan, struct part text);
 
-/* Symbols of an order, and milliseconds of symbols (a symbol is 16 microseconds, so three decimals are exact). */
+/* Adds the cluster of a line to a plan. Its number has to be below MOST_CLUSTERS, and new. */
+void add_cluster(struct plan *plan, const uint8_t *line);
+
+/* Symbols of an order. */
 uint32_t symbols_of(int order);
 uint32_t interval_of(const struct plan *plan);
+
+/* The symbol at which a cluster's portion ends. */
+uint64_t end_of(const struct plan *plan, int cluster);
+
+/* The sum of all portions, in symbols; at most 64 x 15,728,640. */
+uint32_t sum_of_portions(const struct site *site);
+
+/* The flow with the shortest required period; the first of several, and -1 without flows. */
+int most_frequent(const struct site *site);
 
 /* The clusters on a flow's path from source to sink, at most 2 * MOST_CLUSTERS; returns how many. */
 int path_of(const struct site *site, const struct flow *flow, int path[2 * MOST_CLUSTERS]);
@@ -49,5 +62,9 @@ int path_of(const struct site *site, const struct flow *flow, int path[2 * MOST_
 /* The periods that a flow crosses in a plan, and those that its deadline allows at an interval. */
 int crossings(const struct site *site, const struct plan *plan, const struct flow *flow);
 uint32_t allowed(uint32_t deadline, uint32_t interval);
+
+/* The first flow from a number on that crosses more periods than its deadline allows; the number of flows where
+ * there is none. */
+int next_late(const struct site *site, const struct plan *plan, int flow);
 
 #endif

@@ -1,4 +1,4 @@
-/* What tables and words share: milliseconds, and colours where they are wanted. */
+/* What tables and words share: milliseconds, shares, and colours where they are wanted. */
 #ifndef CLI_PRINT_H
 #define CLI_PRINT_H
 
@@ -18,13 +18,20 @@ const struct paint *paint_for(int colour);
  * decimals are exact. */
 void print_ms(FILE *out, uint32_t symbols, int columns);
 
-/* Prints symbols as "N symbols = M ms". */
-void print_time(FILE *out, uint32_t symbols);
+/* Symbols as "N symbols = M ms", printed or as a string that lasts as long as the room for it. */
+#define TIME_WORDS 80
+void print_time(FILE *out, uint64_t symbols);
+const char *time_words(char room[TIME_WORDS], uint64_t symbols);
+
+/* Prints how much of an interval all clusters sleep: "N symbols = M ms, P % of the interval". */
+void print_asleep(FILE *out, const struct site *site, uint32_t interval);
 
 /* Prints the ends of a flow by their tags. */
 void print_ends(FILE *out, const struct site *site, const struct flow *flow);
 
-/* The sum of all portions, in symbols; at most 64 x 15,728,640. */
-uint32_t sum_of_portions(const struct site *site);
+/* What is said of a flow whose deadline is shorter than the interval, in two lines; the second is to be indented. */
+#define SHORT_DEADLINE_WORDS(indent) \
+    "the rule allows no crossing and asks no more, and\n" indent \
+    "values may take longer than the deadline, up to the interval\n"
 
 #endif

@@ -1,4 +1,4 @@
-/* The refusals in words (docs/FORMATS.md, "Refusal numbers"). */
+/* The refusals in words (docs/FORMATS.md, "Refusal numbers" and "Checking a plan"). */
 #include "refusals.h"
 
 static const char *const table[] = {
@@ -16,6 +16,11 @@ static const char *const table[] = {
     [CARTHERON_NO_PLACING] = "the portions fit, but no order of the clusters keeps every flow within the "
                              "crossings that its deadline allows by the rule",
     [CARTHERON_SHORT_ROOM] = "the room is shorter than the answer",
+    [CARTHERON_NO_PLAN_TEXT] = "not laid out as a plan text",
+    [CARTHERON_NOT_PERMITTED] = "the beacon order is not permitted",
+    [CARTHERON_WRONG_CLUSTER] = "not the site's clusters, each once and in order of start",
+    [CARTHERON_OVERLAP] = "two portions overlap, or one ends past the interval",
+    [CARTHERON_LATE] = "a flow crosses more periods than its deadline allows",
 };
 
 const char *refusal_words(enum cartheron_refusal number)

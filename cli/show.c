@@ -4,24 +4,15 @@
 #define NONE_TO_SPARE '!'
 #define SHORT_DEADLINE '<'
 
-/* Tenths of a percent, rounded down, so that not quite all never reads as all. */
-static unsigned permille(uint32_t part, uint32_t whole)
-{
-    return (unsigned)((uint64_t)part * 1000 / whole);
-}
-
 static void show_interval(FILE *out, const struct site *site, const struct plan *plan)
 {
-    uint32_t interval = interval_of(plan), active = sum_of_portions(site), asleep = interval - active;
-    unsigned tenths = permille(asleep, interval);
-
     fprintf(out, "beacon order  %d\ninterval      ", plan->order);
-    print_time(out, interval);
+    print_time(out, interval_of(plan));
     fputs("\nactive        ", out);
-    print_time(out, active);
+    print_time(out, sum_of_portions(site));
     fputs(", one cluster after the other\nasleep        ", out);
-    print_time(out, asleep);
-    fprintf(out, ", %u.%u %% of the interval\n", tenths / 10, tenths % 10);
+    print_asleep(out, site, interval_of(plan));
+    fputc('\n', out);
 }
 
 static void show_sequence(FILE *out, const struct paint *paint, const struct site *site, const struct plan *plan)
@@ -77,6 +68,5 @@ void show_plan(FILE *out, const struct paint *paint, const struct site *site, co
     if (seen & 1)
         fprintf(out, "%c  no crossing to spare\n", NONE_TO_SPARE);
     if (seen & 2)
-        fprintf(out, "%c  a deadline shorter than the interval: the rule allows no crossing and asks no more, and\n"
-                     "   values may take longer than the deadline, up to the interval\n", SHORT_DEADLINE);
+        fprintf(out, "%c  a deadline shorter than the interval: " SHORT_DEADLINE_WORDS("   "), SHORT_DEADLINE);
 }

@@ -12,4 +12,7 @@ void show_site(FILE *out, const struct paint *paint, const struct site *site);
 void json_plan(FILE *out, const struct site *site, const struct plan *plan);
 void json_site(FILE *out, const struct site *site);
 
+/* The same of a plan that was checked, with the largest order that is possible. */
+void json_checked(FILE *out, const struct site *site, const struct plan *plan, int largest);
+
 #endif

@@ -3,9 +3,9 @@ _cartheron() {
     local word=${COMP_WORDS[COMP_CWORD]} before=${COMP_WORDS[COMP_CWORD - 1]} options='-o --help'
     COMPREPLY=()
     if [ "$COMP_CWORD" -eq 1 ]; then
-        mapfile -t COMPREPLY < <(compgen -W 'plan show site picture rewrite --help --version' -- "$word")
+        mapfile -t COMPREPLY < <(compgen -W 'plan show site picture rewrite check --help --version' -- "$word")
     elif [ "$before" != -o ] && [[ $word == -?* ]]; then
-        case ${COMP_WORDS[1]} in show | site) options="--json $options" ;; esac
+        case ${COMP_WORDS[1]} in show | site | check) options="--json $options" ;; esac
         mapfile -t COMPREPLY < <(compgen -W "$options" -- "$word")
     else
         compopt -o filenames 2>/dev/null || :

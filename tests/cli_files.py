@@ -6,50 +6,13 @@
 import os
 import pty
 import resource
-import shutil
 import stat
 import subprocess
 import sys
-import tempfile
 import time
 import unittest
 
-COMMAND = [os.path.abspath(word) for word in sys.argv[1:]]
-NOBODY = 65534
-MOST_READ = 11859
-PUMP_HALL, TANK_FARM = os.path.abspath("sites/pump-hall.site"), os.path.abspath("sites/tank-farm.site")
-NO_FIT = os.path.abspath("sites/raw-water-no-fit.site")
-PLAIN = {"PATH": os.environ["PATH"], "TERM": "xterm", "ASAN_OPTIONS": os.environ.get("ASAN_OPTIONS", "")}
-
-
-def run(*arguments, **how):
-    """The command's exit status, standard output and standard error."""
-    how = {"stdin": subprocess.DEVNULL, "stdout": subprocess.PIPE, "stderr": subprocess.PIPE, "timeout": 60, "env": PLAIN} | how
-    ended = subprocess.run([*COMMAND, *arguments], **how)
-    return ended.returncode, ended.stdout, ended.stderr
-
-
-def contents(path):
-    with open(path, "rb") as file:
-        return file.read()
-
-
-class Case(unittest.TestCase):
-    def setUp(self):
-        self.folder = tempfile.mkdtemp()
-        self.addCleanup(shutil.rmtree, self.folder)
-
-    def path(self, name, text=None):
-        """A path in the folder, with a file of this text if there is one."""
-        path = os.path.join(self.folder, name)
-        if text is not None:
-            with open(path, "wb") as file:
-                file.write(text)
-        return path
-
-    def fails(self, answer, words):
-        """Status 2, nothing on standard output, and just these words."""
-        self.assertEqual(answer, (2, b"", b"cartheron: " + words + b"\n"))
+from cli_command import COMMAND, LATE, MOST_READ, NOBODY, NO_FIT, PLAIN, PUMP_HALL, TANK_FARM, VENDOR, Case, contents, run
 
 
 class Reading(Case):
@@ -106,13 +69,14 @@ class Writing(Case):
         self.assertEqual(sorted(os.listdir(self.folder)), sorted(names))
 
     def test_a_full_disk(self):
-        for command in "plan", "show", "site", "picture", "rewrite":
+        for command in ["plan"], ["show"], ["site"], ["picture"], ["rewrite"], ["check", VENDOR]:
             with open("/dev/full", "wb") as full:
-                answer = run(command, PUMP_HALL, stdout=full)
+                answer = run(command[0], PUMP_HALL, *command[1:], stdout=full)
             self.assertEqual(answer, (2, None, b"cartheron: cannot write standard output: No space left on device\n"))
         with open("/dev/full", "wb") as full:
             self.assertEqual(run("--help", stdout=full)[0], 2)
             self.assertEqual(run("plan", NO_FIT, stderr=full)[0], 2)
+            self.assertEqual(run("check", PUMP_HALL, LATE, stderr=full)[0], 2)
 
     def test_a_closed_pipe(self):
         reader, writer = os.pipe()
@@ -125,7 +89,8 @@ class Writing(Case):
     def test_closed_standard_files(self):
         def closed(*fds):
             return {"preexec_fn": lambda: [os.close(fd) for fd in fds]}
-        self.fails(run("plan", **closed(0)), b"cannot read standard input: Bad file descriptor")
+        for command in ["plan"], ["check", "-", VENDOR], ["check", PUMP_HALL, "-"]:
+            self.fails(run(*command, **closed(0)), b"cannot read standard input: Bad file descriptor")
         self.assertEqual(run("plan", PUMP_HALL, **closed(0)), (0, self.plan, b""))
         self.assertEqual(run("plan", PUMP_HALL, **closed(1))[0], 2)
         self.assertEqual(run("plan", "-o", self.path("plan"), PUMP_HALL, **closed(0, 1, 2))[0], 0)
@@ -260,6 +225,7 @@ class Colour(Case):
         self.assertIn(b"\033[", self.on_terminal("show", PUMP_HALL))
         self.assertIn(b"\033[", self.on_terminal("site", PUMP_HALL))
         self.assertIn(b"\033[", self.on_terminal("plan", NO_FIT, files=["stderr"]))
+        self.assertIn(b"\033[", self.on_terminal("check", PUMP_HALL, LATE, files=["stderr"]))
         self.assertNotIn(b"\033", self.on_terminal("plan", NO_FIT, files=["stdout"]))
         self.assertNotIn(b"\033", run("show", PUMP_HALL)[1] + run("show", NO_FIT)[2])
 
@@ -271,6 +237,7 @@ class Colour(Case):
     def test_never_in_what_programs_read(self):
         for arguments in ["plan"], ["rewrite"], ["show", "--json"], ["site", "--json"], ["picture"]:
             self.assertNotIn(b"\033", self.on_terminal(*arguments, PUMP_HALL))
+        self.assertNotIn(b"\033", self.on_terminal("check", "--json", PUMP_HALL, VENDOR))
         self.on_terminal("show", "-o", self.path("table"), PUMP_HALL)
         self.assertEqual(contents(self.path("table")), run("show", PUMP_HALL)[1])
 

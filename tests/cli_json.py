@@ -1,9 +1,10 @@
-"""Compares what `cartheron show --json` and `cartheron site --json` print with the independent reader and planner.
+"""Compares what cartheron prints with --json, for show, site and check, with the independent reader and planner.
 
     python3 tests/cli_json.py COMMAND.. <ANSWERS
 
-The command, which may be several words, is run over the stored sites. Standard input has what `cli_texts --json`
-prints: for each text the text as a string, what site prints, and what show prints or null.
+The command, which may be several words, is run over the stored sites and the stored plan that passes. Standard input
+has what `cli_texts --json` and `cli_plans --json` print: for each text the text as a string, what site prints, and what
+show prints or null; and for each plan that passes the site's text and the plan's as strings, and what check prints.
 """
 
 import json
@@ -74,6 +75,19 @@ def compare(text, site_answer, plan_answer):
     return expected is not None
 
 
+def compare_checked(text, plan, answer):
+    """What check prints of a plan that passes: its facts, and the order that the planner has for the site."""
+    length, room = planning.plan(text, 9673)
+    assert length <= 65535, (text, plan)
+    expected = plan_facts(reference.read(text), plan) | {"largest_order": bytes.fromhex(room[:8].decode())[2]}
+    assert answer == expected, (text, plan, answer)
+
+
+def contents(path):
+    with open(path, "rb") as file:
+        return file.read()
+
+
 def answers(documents):
     """The values that stand one behind the other in a text."""
     at = 0
@@ -92,17 +106,22 @@ def printed(command, *arguments):
 
 
 def main():
-    command, texts, planned = sys.argv[1:], 0, 0
+    command, texts, planned, checked = sys.argv[1:], 0, 0, 1
     for path in glob("sites/*.site") + glob("bench/sites/*.site"):
-        with open(path, "rb") as file:
-            planned += compare(file.read(), printed(command, "site", "--json", path), printed(command, "show", "--json", path))
+        planned += compare(contents(path), printed(command, "site", "--json", path), printed(command, "show", "--json", path))
         texts += 1
+    site, plan = "sites/pump-hall.site", "sites/pump-hall-vendor.plan"
+    compare_checked(contents(site), contents(plan), printed(command, "check", "--json", site, plan))
     given = list(answers(sys.stdin.read()))
-    for text, site_answer, plan_answer in zip(given[0::3], given[1::3], given[2::3], strict=True):
-        planned += compare(text.encode("ascii"), site_answer, plan_answer)
-        texts += 1
-    assert planned > 0
-    print(f"cli_json: {texts} sites as the independent planner has them, {planned} of them planned")
+    for text, second, third in zip(given[0::3], given[1::3], given[2::3], strict=True):
+        if isinstance(second, str):
+            compare_checked(text.encode("ascii"), second.encode("ascii"), third)
+            checked += 1
+        else:
+            planned += compare(text.encode("ascii"), second, third)
+            texts += 1
+    assert planned > 0 and checked > 1
+    print(f"cli_json: {texts} sites as the independent planner has them, {planned} of them planned, and {checked} plans")
 
 
 main()

@@ -18,6 +18,11 @@ uint32_t cartheron_place(const uint8_t *text, size_t text_len)
     return reference_place(text, text_len);
 }
 
+uint32_t cartheron_check(const uint8_t *text, size_t text_len, const uint8_t *plan, size_t plan_len)
+{
+    return reference_check(text, text_len, plan, plan_len);
+}
+
 size_t cartheron_line_start(const uint8_t *text, size_t text_len, size_t line)
 {
     return reference_line_start(text, text_len, line);

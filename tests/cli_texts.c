@@ -6,12 +6,11 @@
  *   cli_texts --json SEED COUNT         prints the accepted texts and what show and site print of them as JSON
  */
 #define _POSIX_C_SOURCE 200809L
-#include "../cli/answer.h"
+#include "cli_runs.h"
+
 #include "../cli/files.h"
 #include "../cli/refusals.h"
 #include "../cli/tell.h"
-#include "cartheron.h"
-#include "generator.h"
 
 #include <inttypes.h>
 #include <stdlib.h>
@@ -32,66 +31,6 @@ static const struct {
     int json;
 } prints[] = {{PLAN, 0}, {SHOW, 0}, {SHOW, 1}, {SITE, 0}, {SITE, 1}, {PICTURE, 0}, {REWRITE, 0}};
 
-/* What a command printed, on standard output and on standard error. */
-struct printed {
-    enum status status;
-    char *out, *words;
-    size_t out_length, words_length;
-};
-
-static struct text text;
-static uint64_t seed, number;
-
-static _Noreturn void give_up(const char *why)
-{
-    print_text(&text);
-    printf("cli_texts: text %" PRIu64 " of seed %" PRIu64 ": %s\n", number, seed, why);
-    exit(1);
-}
-
-static void check(bool holds, const char *why)
-{
-    if (!holds)
-        give_up(why);
-}
-
-/* The part of the text that the command would read, in a heap block of just that length. */
-static uint8_t *block_of_text(size_t *length)
-{
-    *length = text.length < MOST_READ ? text.length : MOST_READ;
-    uint8_t *block = malloc(*length > 0 ? *length : 1);
-
-    if (block == NULL)
-        exit(2);
-    memcpy(block, text.bytes, *length);
-    return block;
-}
-
-/* Runs a command on the text. */
-static struct printed run(enum command command, int json, int colour)
-{
-    size_t length;
-    uint8_t *block = block_of_text(&length);
-    struct printed printed = {0};
-    FILE *out = open_memstream(&printed.out, &printed.out_length);
-    FILE *words = open_memstream(&printed.words, &printed.words_length);
-
-    if (out == NULL || words == NULL)
-        exit(2);
-    struct request request = {command, json, colour, colour, "text", {block, length}};
-    printed.status = answer(out, words, &request);
-    fclose(out);
-    fclose(words);
-    free(block);
-    return printed;
-}
-
-static void forget(struct printed *printed)
-{
-    free(printed->out);
-    free(printed->words);
-}
-
 /* The caret of a line that is not one stands under its first character that is no digit, or behind the digits
  * that there are, or that there may be. */
 static void check_digits(const uint8_t *line, size_t length, size_t column)
@@ -99,8 +38,8 @@ static void check_digits(const uint8_t *line, size_t length, size_t column)
     static const char digits[] = "0123456789ABCDEF";
 
     for (size_t i = 0; i < column; i++)
-        check(line[i] != '\0' && strchr(digits, line[i]) != NULL, "a character before the caret that is no digit");
-    check(column == length || column == 136 || line[column] == '\0' || strchr(digits, line[column]) == NULL,
+        check_that(line[i] != '\0' && strchr(digits, line[i]) != NULL, "a character before the caret that is no digit");
+    check_that(column == length || column == 136 || line[column] == '\0' || strchr(digits, line[column]) == NULL,
           "a digit above the caret");
 }
 
@@ -114,11 +53,11 @@ static bool names_field(enum cartheron_refusal refusal)
 static void check_field(const char *told, uint32_t line, size_t column)
 {
     char field[64];
-    uint32_t place = cartheron_place(text.bytes, text.length);
+    uint32_t place = cartheron_place(trial.site.bytes, trial.site.length);
 
     snprintf(field, sizeof field, "line %" PRIu32 ", byte %" PRIu32 ": ", line, place);
-    check(strncmp(told, field, strlen(field)) == 0, "a bad field with another line or place");
-    check(column == 2 * (size_t)place, "a caret that is not under the bad field");
+    check_that(strncmp(told, field, strlen(field)) == 0, "a bad field with another line or place");
+    check_that(column == 2 * (size_t)place, "a caret that is not under the bad field");
 }
 
 /* A refusal begins with its line and number, and all of it is printable. One at a line that is there ends in
@@ -127,27 +66,24 @@ static void check_words(const struct printed *printed, uint32_t answer)
 {
     char head[64], at_line[16] = "";
     uint32_t line = CARTHERON_LINE(answer);
-    size_t shown = cartheron_line_length(text.bytes, text.length, line);
+    size_t length = cartheron_line_length(trial.site.bytes, trial.site.length, line);
+    struct shown shown = shown_in(printed->words);
 
     if (line != 0)
         snprintf(at_line, sizeof at_line, ":%" PRIu32, line);
-    snprintf(head, sizeof head, "text%s: refused (%d): ", at_line, (int)CARTHERON_NUMBER(answer));
-    check(strncmp(printed->words, head, strlen(head)) == 0, "a refusal with another number or line");
-    for (size_t i = 0; i < printed->words_length; i++)
-        check(printed->words[i] == '\n' || (printed->words[i] >= 0x20 && printed->words[i] < 0x7F),
-              "a byte in the words that is not printable");
-    check(printed->words[printed->words_length - 1] == '\n', "words that do not end a line");
-    const char *caret = strstr(printed->words, "\n    |");
-    bool there = line != 0 && !(CARTHERON_NUMBER(answer) == CARTHERON_WRONG_KIND && shown == 0);
-    check((caret != NULL) == there, "a caret where no line is shown, or none where one is");
-    if (caret == NULL)
+    snprintf(head, sizeof head, "site%s: refused (%d): ", at_line, (int)CARTHERON_NUMBER(answer));
+    check_that(strncmp(printed->words, head, strlen(head)) == 0, "a refusal with another number or line");
+    check_printable(printed);
+    bool there = line != 0 && !(CARTHERON_NUMBER(answer) == CARTHERON_WRONG_KIND && length == 0);
+    check_that(shown.there == there, "a caret where no line is shown, or none where one is");
+    if (!there)
         return;
-    size_t column = strspn(caret + 6, " ");
-    check(caret[6 + column] == '^' && column <= shown && column <= 136, "a caret in another place");
+    check_that(shown.column <= length && shown.column <= 136, "a caret in another place");
     if (CARTHERON_NUMBER(answer) == CARTHERON_NOT_A_LINE)
-        check_digits(text.bytes + cartheron_line_start(text.bytes, text.length, line), shown, column);
+        check_digits(trial.site.bytes + cartheron_line_start(trial.site.bytes, trial.site.length, line), length,
+                     shown.column);
     if (names_field(CARTHERON_NUMBER(answer)))
-        check_field(printed->words + strlen(head), line, column);
+        check_field(printed->words + strlen(head), line, shown.column);
 }
 
 /* Tells the last line that was taken as if it were refused, for a field or by a number that there is not. All that is
@@ -155,27 +91,27 @@ static void check_words(const struct printed *printed, uint32_t answer)
 static void check_taken_line(uint32_t answer)
 {
     static const uint32_t numbers[] = {4, 10, 11, 12, 13, 14, 15, 65535};
-    uint32_t wrong = 65536 * numbers[number % (sizeof numbers / sizeof numbers[0])];
+    uint32_t wrong = 65536 * numbers[trial.number % (sizeof numbers / sizeof numbers[0])];
     enum cartheron_refusal refusal = CARTHERON_NUMBER(wrong);
     const char *sentence = names_field(refusal) ? refusal_words(refusal) : "a refusal that this command does not know";
     uint32_t line = CARTHERON_REFUSED(answer) && CARTHERON_LINE(answer) != 0 ? CARTHERON_LINE(answer) - 1 : 1;
     char expected[400], *told = NULL;
-    size_t length, told_length;
+    size_t told_length;
 
     if (line == 0)
         return;
-    uint8_t *block = block_of_text(&length);
+    struct part block = block_of(&trial.site, MOST_READ);
     FILE *words = open_memstream(&told, &told_length);
     if (words == NULL)
         exit(2);
-    tell(words, paint_for(0), "text", (struct part){block, length}, wrong + line);
+    tell(words, paint_for(0), "site", block, wrong + line);
     fclose(words);
-    snprintf(expected, sizeof expected, "text:%" PRIu32 ": refused (%d): %s\n%4" PRIu32 "|%.*s\n", line, (int)refusal,
-             sentence, line, (int)cartheron_line_length(block, length, line),
-             (const char *)block + cartheron_line_start(block, length, line));
-    check(strcmp(told, expected) == 0, "more told of a line that was taken than its number says");
+    snprintf(expected, sizeof expected, "site:%" PRIu32 ": refused (%d): %s\n%4" PRIu32 "|%.*s\n", line, (int)refusal,
+             sentence, line, (int)cartheron_line_length(block.bytes, block.length, line),
+             (const char *)block.bytes + cartheron_line_start(block.bytes, block.length, line));
+    check_that(strcmp(told, expected) == 0, "more told of a line that was taken than its number says");
     free(told);
-    free(block);
+    free((void *)block.bytes);
 }
 
 /* Whether a command prints what the library wrote. */
@@ -190,13 +126,13 @@ static void check_print(size_t print, uint32_t answer, const uint8_t *room)
     struct printed printed = run(prints[print].command, prints[print].json, 0);
 
     if (CARTHERON_REFUSED(answer)) {
-        check(printed.status == REFUSED && printed.out_length == 0, "something printed for a refusal");
+        check_that(printed.status == REFUSED && printed.out_length == 0, "something printed for a refusal");
         check_words(&printed, answer);
     } else {
-        check(printed.status == ANSWERED && printed.words_length == 0, "words for an answer");
-        check(printed.out_length > 0, "an empty answer");
+        check_that(printed.status == ANSWERED && printed.words_length == 0, "words for an answer");
+        check_that(printed.out_length > 0, "an empty answer");
         if (prints_room(prints[print].command))
-            check(printed.out_length == answer && memcmp(printed.out, room, answer) == 0, "another answer");
+            check_that(printed.out_length == answer && memcmp(printed.out, room, answer) == 0, "another answer");
     }
     forget(&printed);
 }
@@ -206,8 +142,8 @@ static void check_print(size_t print, uint32_t answer, const uint8_t *room)
 static uint32_t check_text(bool all)
 {
     uint8_t plan_room[CARTHERON_LONGEST_PLAN], site_room[CARTHERON_LONGEST_SITE];
-    uint32_t plan = cartheron_plan(text.bytes, text.length, plan_room, sizeof plan_room);
-    uint32_t site = cartheron_rewrite(text.bytes, text.length, site_room, sizeof site_room);
+    uint32_t plan = cartheron_plan(trial.site.bytes, trial.site.length, plan_room, sizeof plan_room);
+    uint32_t site = cartheron_rewrite(trial.site.bytes, trial.site.length, site_room, sizeof site_room);
 
     for (size_t i = 0; i < sizeof prints / sizeof prints[0]; i++) {
         bool reads_only = prints[i].command == SITE || prints[i].command == REWRITE;
@@ -216,7 +152,7 @@ static uint32_t check_text(bool all)
     }
     check_taken_line(plan);
     struct printed coloured = run(SHOW, 0, 1);
-    check(coloured.status == (CARTHERON_REFUSED(plan) ? REFUSED : ANSWERED), "another status with colour");
+    check_that(coloured.status == (CARTHERON_REFUSED(plan) ? REFUSED : ANSWERED), "another status with colour");
     forget(&coloured);
     return plan;
 }
@@ -227,10 +163,8 @@ static void print_json(void)
     struct printed show = run(SHOW, 1, 0), site = run(SITE, 1, 0);
 
     if (site.status == ANSWERED) {
-        printf("\"");
-        for (size_t i = 0; i < text.length; i++)
-            printf(text.bytes[i] == '\n' ? "\\n" : "%c", text.bytes[i]);
-        printf("\"\n%s%s", site.out, show.status == ANSWERED ? show.out : "null\n");
+        print_string(&trial.site);
+        printf("%s%s", site.out, show.status == ANSWERED ? show.out : "null\n");
     }
     forget(&show);
     forget(&site);
@@ -238,15 +172,15 @@ static void print_json(void)
 
 static void make(uint64_t next)
 {
-    number = next;
-    struct dice dice = dice_of(seed, number);
-    make_text(&dice, &text);
+    trial.number = next;
+    struct dice dice = dice_of(trial.seed, next);
+    make_text(&dice, &trial.site);
 }
 
 /* Counts an answer by its number: a length is below 65,536. */
 static void count_answer(uint64_t seen[HIGHEST_REFUSAL + 1], uint32_t answer)
 {
-    check(answer >> 16 <= HIGHEST_REFUSAL, "a refusal that there is not");
+    check_that(answer >> 16 <= HIGHEST_REFUSAL, "a refusal that there is not");
     seen[answer >> 16]++;
 }
 
@@ -255,7 +189,7 @@ int main(int argc, char **argv)
     uint64_t seen[HIGHEST_REFUSAL + 1] = {0};
     bool json = argc == 4 && strcmp(argv[1], "--json") == 0;
 
-    seed = argc > 1 ? strtoull(argv[json ? 2 : 1], NULL, 10) : 1;
+    trial.seed = argc > 1 ? strtoull(argv[json ? 2 : 1], NULL, 10) : 1;
     uint64_t count = argc > 2 ? strtoull(argv[json ? 3 : 2], NULL, 10) : 20000;
     uint64_t every = argc > 3 && !json ? strtoull(argv[3], NULL, 10) : 1;
     for (uint64_t next = 0; next < count; next++) {
@@ -273,6 +207,6 @@ int main(int argc, char **argv)
             return 1;
         }
     printf("cli_texts: the command agrees on %" PRIu64 " texts (seed %" PRIu64 "), %" PRIu64 " of them planned\n",
-           count, seed, seen[0]);
+           count, trial.seed, seen[0]);
     return 0;
 }
