@@ -1,7 +1,8 @@
 /* The library and the plain C of bench/plain.h side by side, over sites in files.
  *
- *     bench times SITE..   microseconds a call; the first site is also read and written back
- *     bench stack SITE..   the stack under the library's functions
+ *     bench times SITE..    microseconds a call; the first site is also read and written back
+ *     bench checks SITE..   the same for checking the site's own plan, and beside it the library's time for planning
+ *     bench stack SITE..    the stack under the library's functions
  *
  * Times are printed and not judged. Exit status 1 where answers or rooms differ or the stack passes its
  * limit, 2 where a site cannot be read.
@@ -13,9 +14,8 @@
 #include <stdlib.h>
 #include <string.h>
 #include <time.h>
-#include "cartheron.h"
+#include "duels.h"
 #include "plain.h"
-#include "site_file.h"
 
 #define STACK_LIMIT (16 * 1024)
 #define ROOM CARTHERON_LONGEST_SITE
@@ -23,15 +23,6 @@
 #define BLOCK_NS 100000.0
 #define MEASURE_NS 1.0e9
 
-typedef uint32_t answering(const uint8_t *text, size_t text_len, uint8_t *room, size_t room_len);
-
-/* What is measured: two functions that answer alike. */
-struct duel {
-    answering *ours, *plain;
-};
-
-static const struct duel planning = {cartheron_plan, plain_plan};
-static const struct duel rewriting = {cartheron_rewrite, plain_rewrite};
 static uint8_t room[ROOM], other_room[ROOM];
 
 /* A clock that never goes back, in nanoseconds. */
@@ -87,23 +78,35 @@ static void agree(const struct duel *duel, const struct site *site)
     }
 }
 
-/* Checks that both agree, then times them in blocks that alternate. Prints the shortest block of each, which
- * other work on the machine disturbs least, their ratio, and the median ratio of neighbouring blocks. */
-static void measure(const char *name, const struct duel *duel, const struct site *site)
+/* The shortest of the blocks so far, or this one. */
+static double shorter(double least, double block)
+{
+    return block < least ? block : least;
+}
+
+/* Checks that both agree, then times them in blocks that alternate, and with them another function, if there is one.
+ * Prints the shortest block of each, which other work on the machine disturbs least, the ratio of the two, and the
+ * median ratio of neighbouring blocks; then the other function's, and what part of that the first one takes. */
+static void measure(const char *name, const struct duel *duel, answering *other, const struct site *site)
 {
     static double ratios[MOST_BLOCKS];
     agree(duel, site);
     unsigned calls = 1 + (unsigned)(BLOCK_NS / block_ns(duel->ours, site, 10));
-    double start = now_ns(), least_ours = start, least_plain = start;
+    double start = now_ns(), least_ours = start, least_plain = start, least_other = start;
     size_t blocks = 0;
     while (blocks < MOST_BLOCKS && now_ns() - start < MEASURE_NS) {
         double ours = block_ns(duel->ours, site, calls), plain = block_ns(duel->plain, site, calls);
-        least_ours = ours < least_ours ? ours : least_ours;
-        least_plain = plain < least_plain ? plain : least_plain;
+        least_ours = shorter(least_ours, ours);
+        least_plain = shorter(least_plain, plain);
         ratios[blocks++] = ours / plain;
+        if (other != NULL)
+            least_other = shorter(least_other, block_ns(other, site, calls));
     }
-    printf("  %-24s %9.3f %9.3f %7.2f %7.2f\n", name, least_ours / 1000, least_plain / 1000, least_ours / least_plain,
+    printf("  %-24s %9.3f %9.3f %7.2f %7.2f", name, least_ours / 1000, least_plain / 1000, least_ours / least_plain,
            median(ratios, blocks));
+    if (other != NULL)
+        printf(" %9.3f %7.2f", least_other / 1000, least_ours / least_other);
+    printf("\n");
     fflush(stdout);
 }
 
@@ -142,14 +145,17 @@ static size_t stack_of(struct errand errand)
     return size - low;
 }
 
-/* Prints the stack under the library's two functions for a site, and says whether it is within the limit. */
+/* Prints the stack under the library's functions for a site that has a plan, and says whether it is within the
+ * limit. */
 static bool stack_within(const struct site *site)
 {
+    keep_plan(site);
     size_t idle = stack_of((struct errand){NULL, site});
-    size_t plan = stack_of((struct errand){cartheron_plan, site}) - idle;
-    size_t rewrite = stack_of((struct errand){cartheron_rewrite, site}) - idle;
-    printf("  %-24s %9zu %9zu\n", site->name, plan, rewrite);
-    return plan <= STACK_LIMIT && rewrite <= STACK_LIMIT;
+    size_t plan = stack_of((struct errand){planning.ours, site}) - idle;
+    size_t rewrite = stack_of((struct errand){rewriting.ours, site}) - idle;
+    size_t check = stack_of((struct errand){checking.ours, site}) - idle;
+    printf("  %-24s %9zu %9zu %9zu\n", site->name, plan, rewrite, check);
+    return plan <= STACK_LIMIT && rewrite <= STACK_LIMIT && check <= STACK_LIMIT;
 }
 
 /* Times planning each site, and writing the first one back. */
@@ -159,9 +165,21 @@ static void print_times(int sites, char **paths)
     printf("microseconds a call              ours   plain C   ratio  median\n");
     for (int i = 0; i < sites; i++) {
         read_site(paths[i], &site);
-        measure(site.name, &planning, &site);
+        measure(site.name, &planning, NULL, &site);
         if (i == 0)
-            measure(WRITTEN_BACK, &rewriting, &site);
+            measure(WRITTEN_BACK, &rewriting, NULL, &site);
+    }
+}
+
+/* Times checking each site's own plan, and planning it. */
+static void print_checks(int sites, char **paths)
+{
+    static struct site site;
+    printf("checking, the same               ours   plain C   ratio  median  planning    part\n");
+    for (int i = 0; i < sites; i++) {
+        read_site(paths[i], &site);
+        keep_plan(&site);
+        measure(site.name, &checking, planning.ours, &site);
     }
 }
 
@@ -170,7 +188,7 @@ static int judge_stack(int sites, char **paths)
 {
     static struct site site;
     bool within = true;
-    printf("stack, bytes; at most %d            plan   rewrite\n", STACK_LIMIT);
+    printf("stack, bytes; at most %d            plan   rewrite     check\n", STACK_LIMIT);
     for (int i = 0; i < sites; i++) {
         read_site(paths[i], &site);
         within = stack_within(&site) && within;
@@ -185,10 +203,12 @@ int main(int argc, char **argv)
     const char *work = argc > 2 ? argv[1] : "";
     if (strcmp(work, "times") == 0) {
         print_times(argc - 2, argv + 2);
+    } else if (strcmp(work, "checks") == 0) {
+        print_checks(argc - 2, argv + 2);
     } else if (strcmp(work, "stack") == 0) {
         return judge_stack(argc - 2, argv + 2);
     } else {
-        printf("usage: bench times|stack SITE..\n");
+        printf("usage: bench times|checks|stack SITE..\n");
         return 2;
     }
     return 0;

@@ -1,16 +1,13 @@
 /* One call of each side for each site, between requests to valgrind's callgrind: it writes a file for each call
  * with the number of instructions that the call took. It prints the names of the sites; each has two files, that
- * of the library first.
+ * of the library first. Behind -- stand the sites whose own plan is checked: their names end in -checked.
  *
- *     valgrind --tool=callgrind --collect-atstart=no count SITE..
+ *     valgrind --tool=callgrind --collect-atstart=no count SITE.. -- SITE..
  */
 #include <stdio.h>
+#include <string.h>
 #include <valgrind/callgrind.h>
-#include "cartheron.h"
-#include "plain.h"
-#include "site_file.h"
-
-typedef uint32_t answering(const uint8_t *text, size_t text_len, uint8_t *room, size_t room_len);
+#include "duels.h"
 
 static uint8_t room[CARTHERON_LONGEST_SITE];
 
@@ -25,21 +22,27 @@ static void count_call(answering *function, const struct site *site)
 }
 
 /* Has both sides counted, and prints under which name. */
-static void count(const char *name, answering *ours, answering *plain, const struct site *site)
+static void count(const char *name, const char *ending, const struct duel *duel, const struct site *site)
 {
-    count_call(ours, site);
-    count_call(plain, site);
-    printf("%s\n", name);
+    count_call(duel->ours, site);
+    count_call(duel->plain, site);
+    printf("%s%s\n", name, ending);
 }
 
 int main(int argc, char **argv)
 {
     static struct site site;
-    for (int i = 1; i < argc; i++) {
+    int i = 1;
+    for (; i < argc && strcmp(argv[i], "--") != 0; i++) {
         read_site(argv[i], &site);
-        count(site.name, cartheron_plan, plain_plan, &site);
+        count(site.name, "", &planning, &site);
         if (i == 1)
-            count(WRITTEN_BACK, cartheron_rewrite, plain_rewrite, &site);
+            count(WRITTEN_BACK, "", &rewriting, &site);
+    }
+    for (i++; i < argc; i++) {
+        read_site(argv[i], &site);
+        keep_plan(&site);
+        count(site.name, "-checked", &checking, &site);
     }
     return 0;
 }

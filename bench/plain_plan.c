@@ -13,19 +13,7 @@ struct tree {
     uint8_t down[MOST_FLOWS];
 };
 
-/* The lowest and the highest number in a set that has one. */
-static inline unsigned lowest(uint64_t set)
-{
-    return (unsigned)__builtin_ctzll(set);
-}
-
-static inline unsigned highest(uint64_t set)
-{
-    return 63u - (unsigned)__builtin_clzll(set);
-}
-
-/* Fills in the tree. A parent has a lower number than its children, so of the ancestors that two clusters
- * share the lowest in the tree is the one with the highest number. */
+/* Fills in the tree. */
 static void grow(const struct plain_site *site, struct tree *tree)
 {
     uint64_t above[MOST_CLUSTERS];
@@ -40,10 +28,8 @@ static void grow(const struct plain_site *site, struct tree *tree)
         tree->children[c] = 0;
         tree->children[parent] |= (uint64_t)1 << c;
     }
-    for (size_t f = 0; f < site->flows; f++) {
-        unsigned source = site->source[f], sink = site->sink[f];
-        tree->down[f] = (uint8_t)(tree->depth[sink] - tree->depth[highest(above[source] & above[sink])]);
-    }
+    for (size_t f = 0; f < site->flows; f++)
+        tree->down[f] = (uint8_t)steps_down(tree->depth, above, site->source[f], site->sink[f]);
 }
 
 /* Lowers a cluster's number to a limit. If it was higher, the cluster is to be looked at again. */
@@ -69,8 +55,7 @@ static bool settle(const struct plain_site *site, const struct tree *tree, unsig
     memset(first, NO_FLOW, sizeof first);
     for (size_t f = 0; f < site->flows; f++) {
         unsigned source = site->source[f], sink = site->sink[f];
-        uint32_t intervals = site->deadline[f] >> order;
-        int most = (int)(intervals > 0 ? intervals - 1 : 0) - tree->down[f];
+        int most = (int)allowed_at(site->deadline[f], order) - tree->down[f];
         if (most >= tree->depth[source])
             continue;
         limit[f] = (int8_t)most;

@@ -2,6 +2,7 @@
  * looked for, and one test at the end of each line says whether all was as it should be. Only a line that was
  * not is looked at again, to find the number of its refusal and the place of its first bad field. */
 #include "plain.h"
+#include "plain_digits.h"
 
 #include <stdbool.h>
 #include <string.h>
@@ -10,29 +11,7 @@ enum { HEADER = 1, CLUSTER = 2, FLOW = 3, NOTHING = 0 };
 enum { HEADER_DIGITS = 8, TAG = 8, FLOW_DIGITS = 22, MOST_DIGITS = 136 };
 enum { PAIRS = 16, ROW = 8, MOST_TAG = 64, NO_PARENT = 0xFF };
 
-#define EACH(byte) (0x0101010101010101u * (byte))
 #define LONGEST_TIME 1000000000u
-
-/* Eight characters as one number, the first one highest. */
-static inline uint64_t eight_at(const uint8_t *at)
-{
-    return (uint64_t)at[0] << 56 | (uint64_t)at[1] << 48 | (uint64_t)at[2] << 40 | (uint64_t)at[3] << 32 |
-           (uint64_t)at[4] << 24 | (uint64_t)at[5] << 16 | (uint64_t)at[6] << 8 | (uint64_t)at[7];
-}
-
-/* The number that eight digits stand for. What is added to *wrong is 0 if they are digits: a value of 0 to 15
- * that is written as the same character again. */
-static inline uint32_t number_at(const uint8_t *at, uint64_t *wrong)
-{
-    uint64_t characters = eight_at(at);
-    uint64_t values = (characters & EACH(0x0F)) + 9 * (characters >> 6 & EACH(0x01));
-    uint64_t letters = (values + EACH(6)) >> 4 & EACH(0x01);
-
-    *wrong |= (values & EACH(0xF0)) | ((values + EACH('0') + 7 * letters) ^ characters);
-    values = (values | values >> 4) & 0x00FF00FF00FF00FF;
-    values = (values | values >> 8) & 0x0000FFFF0000FFFF;
-    return (uint32_t)(values | values >> 16);
-}
 
 /* What has been seen of a tag: flaws in any of its blocks, and sums over them, at each of sixteen places. */
 struct seen {
@@ -118,14 +97,6 @@ static inline bool tag_used(const struct reading *reading, const struct plain_si
             memcmp(reading->text + site->line[i] + TAG, digits, 2 * length) == 0)
             return true;
     return false;
-}
-
-/* The value of a digit, or 16 for another character. */
-static unsigned digit_value(uint8_t character)
-{
-    if (character >= '0' && character <= '9')
-        return character - '0';
-    return character >= 'A' && character <= 'F' ? character - 'A' + 10u : 16;
 }
 
 /* The number of four bytes, the high byte first. */

@@ -1,12 +1,11 @@
 /* The sequence of the clusters, and the two texts that are written. The digits of a tag are those of the text
  * that was read, and so is the whole of a site's text. */
 #include "plain.h"
+#include "plain_digits.h"
 
 #include <string.h>
 
 enum { HEADER_LINE = 9, PLACE_LINE = 23 };
-
-#define EACH(byte) (0x0101010101010101u * (byte))
 
 /* Writes the eight digits of a number. */
 static inline void put_number(uint8_t *room, uint32_t number)
@@ -55,11 +54,11 @@ static void put_in_sequence(const struct plain_site *site, const int8_t *n, uint
     for (unsigned c = 0; c < site->clusters; c++)
         ready |= (uint64_t)(waits[c] == 0) << c;
     for (unsigned i = 0; i < site->clusters; i++) {
-        unsigned next = (unsigned)__builtin_ctzll(ready);
+        unsigned next = lowest(ready);
         ready &= ready - 1;
         sequence[i] = (uint8_t)next;
         for (uint64_t left = after[next]; left != 0; left &= left - 1) {
-            unsigned late = (unsigned)__builtin_ctzll(left);
+            unsigned late = lowest(left);
             ready |= (uint64_t)(--waits[late] == 0) << late;
         }
     }

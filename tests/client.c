@@ -1,16 +1,14 @@
 /* The commissioning tool's view: calls every function of cartheron.h over texts whose answers
- * docs/FORMATS.md gives, and measures the stack that planning and rewriting the largest site and finding the place of
- * its bad field take. Prints a line for each check that fails, then how many passed and failed. */
-#define _GNU_SOURCE
-#include <pthread.h>
+ * docs/FORMATS.md gives, and measures the stack that each takes for the largest site. Prints a line for each check
+ * that fails, then how many passed and failed. */
+#include "client.h"
+
 #include <stdio.h>
-#include <stdlib.h>
 #include <string.h>
-#include "cartheron.h"
 
 static int passed, failed;
 
-static void check(int ok, const char *what)
+void check(int ok, const char *what)
 {
     if (ok) {
         passed++;
@@ -20,16 +18,14 @@ static void check(int ok, const char *what)
     }
 }
 
-/* One memory for all rooms: a room is the first bytes of it, and those behind are not lent. */
-static uint8_t memory[CARTHERON_LONGEST_SITE + 64];
+uint8_t memory[MEMORY];
 
-static void clear(void)
+void clear(void)
 {
     memset(memory, '.', sizeof memory);
 }
 
-/* Whether the memory begins with these bytes and is untouched behind them, inside the room and outside. */
-static int holds(const char *bytes)
+int holds(const char *bytes)
 {
     size_t length = strlen(bytes);
     if (memcmp(memory, bytes, length) != 0)
@@ -40,19 +36,15 @@ static int holds(const char *bytes)
     return 1;
 }
 
-typedef uint32_t function(const uint8_t *text, size_t text_len, uint8_t *room, size_t room_len);
-
-/* Calls a function with a text and a room of so many bytes; it has to write this answer and nothing else. */
-static void writes(const char *what, function *call, const char *text, size_t room_len, const char *answer)
+void writes(const char *what, function *call, const char *text, size_t room_len, const char *answer)
 {
     clear();
     uint32_t n = call((const uint8_t *)text, strlen(text), memory, room_len);
     check(!CARTHERON_REFUSED(n) && n == strlen(answer) && holds(answer), what);
 }
 
-/* The same; it has to refuse so and write nothing. */
-static void declines(const char *what, function *call, const char *text, size_t room_len,
-                     enum cartheron_refusal number, uint32_t line)
+void declines(const char *what, function *call, const char *text, size_t room_len, enum cartheron_refusal number,
+              uint32_t line)
 {
     clear();
     uint32_t n = call((const uint8_t *)text, strlen(text), memory, room_len);
@@ -85,22 +77,13 @@ static void refuses(const char *what, const char *text, enum cartheron_refusal n
     refuses_field(what, text, number, line, CARTHERON_NO_PLACE);
 }
 
-#define ROOT "02FF000141\n"
-#define CHAIN ROOT "0200000142\n0201000143\n"
-static const char P3[] = "01010301\n" CHAIN "03020000000F0000000F00\n";
-static const char P3_plan[] =
-    "81010203\n820200000000000003C00143\n8201000003C0000003C00142\n820000000780000003C00141\n";
-static const char P4[] = "01010302\n" CHAIN "03000200000F0000001DFF\n03020000000F0000001DFF\n";
-static const char P8[] = "01010201\n02FF000141\n0200000142\n0300010000077F00000780\n";
 enum { P3_LENGTH = sizeof P3 - 1, P3_PLAN_LENGTH = 84 };
 
 static void answers(void)
 {
-    plans("P3: child first, the root last", P3, P3_plan);
-    plans("P2: no flows, order 14", "01010300\n" CHAIN,
-          "81010E03\n820000000000000003C00141\n8201000003C0000003C00142\n820200000780000003C00143\n");
-    plans("P5: one crossing allowed", "01010302\n" CHAIN "03000200000F0000001E00\n03020000000F0000001E00\n",
-          "81010203\n820000000000000003C00141\n8202000003C0000003C00143\n820100000780000003C00142\n");
+    plans("P3: child first, the root last", P3, P3_PLAN);
+    plans("P2: no flows, order 14", P2, P2_PLAN);
+    plans("P5: one crossing allowed", P5, P5_PLAN);
     refuses("P4: no placing", P4, CARTHERON_NO_PLACING, 0);
     refuses("P8: no fit", P8, CARTHERON_NO_FIT, 0);
     refuses("a header alone: line 2 is missing", "01010100\n", CARTHERON_WRONG_KIND, 2);
@@ -140,9 +123,9 @@ static void places(void)
 /* Rooms around the length of the plan, and rooms of no bytes at all. */
 static void rooms_for_plans(void)
 {
-    check(strlen(P3_plan) == P3_PLAN_LENGTH, "the plan of P3 has 84 bytes");
-    writes("P3 in a room of one byte more than its plan", cartheron_plan, P3, P3_PLAN_LENGTH + 1, P3_plan);
-    writes("P3 in a room just as long as its plan", cartheron_plan, P3, P3_PLAN_LENGTH, P3_plan);
+    check(strlen(P3_PLAN) == P3_PLAN_LENGTH, "the plan of P3 has 84 bytes");
+    writes("P3 in a room of one byte more than its plan", cartheron_plan, P3, P3_PLAN_LENGTH + 1, P3_PLAN);
+    writes("P3 in a room just as long as its plan", cartheron_plan, P3, P3_PLAN_LENGTH, P3_PLAN);
     declines("P3 in a room one byte short", cartheron_plan, P3, P3_PLAN_LENGTH - 1, CARTHERON_SHORT_ROOM, 0);
     declines("P3 in a room of one byte", cartheron_plan, P3, 1, CARTHERON_SHORT_ROOM, 0);
     declines("P3, which has a plan, in a room of no bytes", cartheron_plan, P3, 0, CARTHERON_SHORT_ROOM, 0);
@@ -202,72 +185,6 @@ static void lines(void)
     check(cartheron_line_start(NULL, 0, 1) == 0 && cartheron_line_length(NULL, 0, 1) == 0, "no text, by a null pointer");
 }
 
-/* 64 clusters in a chain, tags of 64 bytes, 128 flows both ways with deadlines that allow too few crossings
- * at every order. */
-static size_t largest(char *text)
-{
-    char *at = text + sprintf(text, "01014080\n");
-    for (int c = 0; c < 64; c++) {
-        at += sprintf(at, "02%02X0040", c == 0 ? 255 : c - 1);
-        for (int i = 0; i < 64; i++)
-            at += sprintf(at, "%02X", i < 62 ? 'A' + (i * 7 + c) % 26 : i == 62 ? 'A' + c / 26 : 'A' + c % 26);
-        *at++ = '\n';
-    }
-    for (int f = 0; f < 128; f++)
-        at += sprintf(at, "03%02X%02X%08X%08X\n", f % 2 ? 63 : 0, f % 2 ? 0 : 63, 1000000000, 61440 * 32);
-    return (size_t)(at - text);
-}
-
-static char site[CARTHERON_LONGEST_SITE + 1];
-static size_t site_len;
-static uint32_t answer;
-
-static void *planning(void *nothing)
-{
-    answer = cartheron_plan((const uint8_t *)site, site_len, memory, sizeof memory);
-    return nothing;
-}
-
-static void *rewriting(void *nothing)
-{
-    answer = cartheron_rewrite((const uint8_t *)site, site_len, memory, sizeof memory);
-    return nothing;
-}
-
-static void *finding_the_place(void *nothing)
-{
-    answer = cartheron_place((const uint8_t *)site, site_len);
-    return nothing;
-}
-
-static void *idle(void *nothing)
-{
-    return nothing;
-}
-
-/* How many bytes of a painted stack a thread uses. */
-static size_t stack_of(void *(*work)(void *))
-{
-    size_t size = 1 << 18, used = size;
-    uint8_t *stack = aligned_alloc(4096, size);
-    pthread_attr_t attr;
-    pthread_t thread;
-    if (!stack)
-        return 0;
-    memset(stack, 0xA5, size);
-    pthread_attr_init(&attr);
-    if (pthread_attr_setstack(&attr, stack, size) == 0 && pthread_create(&thread, &attr, work, NULL) == 0) {
-        pthread_join(thread, NULL);
-        size_t low = 0;
-        while (low < size && stack[low] == 0xA5)
-            low++;
-        used = size - low;
-    }
-    pthread_attr_destroy(&attr);
-    free(stack);
-    return used;
-}
-
 int main(void)
 {
     answers();
@@ -276,25 +193,8 @@ int main(void)
     rooms_for_sites();
     null_pointers();
     lines();
-    site_len = largest(site);
-    check(site_len == CARTHERON_LONGEST_SITE, "the longest site has 11,721 bytes");
-    writes("the longest site written back into a room just as long", cartheron_rewrite, site, site_len, site);
-    declines("the longest site written back into a room one byte short", cartheron_rewrite, site, site_len - 1,
-             CARTHERON_SHORT_ROOM, 0);
-    clear();
-    size_t unused = stack_of(idle), used = stack_of(planning) - unused;
-    check(answer == 65536u * CARTHERON_NO_PLACING && holds(""), "the largest site has no placing, and the room stays");
-    check(used <= 16 * 1024, "the stack under cartheron_plan is at most 16 KiB");
-    printf("stack under cartheron_plan: %zu bytes\n", used);
-    used = stack_of(rewriting) - unused;
-    check(answer == site_len && holds(site), "the largest site written back on a painted stack");
-    check(used <= 16 * 1024, "the stack under cartheron_rewrite is at most 16 KiB");
-    printf("stack under cartheron_rewrite: %zu bytes\n", used);
-    memset(site + site_len - 9, '0', 8);
-    used = stack_of(finding_the_place) - unused;
-    check(answer == 7, "the largest site, its last deadline 0: the place on a painted stack");
-    check(used <= 16 * 1024, "the stack under cartheron_place is at most 16 KiB");
-    printf("stack under cartheron_place: %zu bytes\n", used);
+    checked_plans();
+    largest_site();
     printf("client: %d passed, %d failed\n", passed, failed);
     return failed != 0;
 }

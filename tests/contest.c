@@ -42,6 +42,20 @@ static void print_difference(const char *what, const uint8_t *a, const uint8_t *
         printf("%s: byte %td is %02X and %02X\n", what, (ptrdiff_t)from - GUARD, a[from], b[from]);
 }
 
+_Noreturn void give_up(const struct contest *contest, const char *words)
+{
+    report(contest, words);
+    exit(1);
+}
+
+void continue_text(struct dice *dice, struct text *text)
+{
+    size_t behind = TEXT_CAPACITY - text->length;
+
+    for (size_t i = 0; i < behind && i < 4; i++)
+        text->bytes[text->length + i] = once_in(dice, 2) ? '0' : '\n';
+}
+
 void report(const struct contest *contest, const char *words)
 {
     print_text(&contest->text);

@@ -1,5 +1,6 @@
 /* Compares the library with the plain C of tests/reference and with that of bench/plain.h on seeded site
- * texts, sound and damaged, and what it plans with the brute force. tests/differential.sh builds and runs it:
+ * texts and plan texts, sound and damaged, and what it plans and accepts with the brute force. tests/differential.sh
+ * builds and runs it:
  *   differential [SEED [COUNT]]      seed 1 and 200,000 cases unless given
  *   differential --case SEED NUMBER  that case alone, with its text
  */
@@ -26,12 +27,10 @@ static const enum cartheron_refusal refusals[] = {
     CARTHERON_NO_FIT, CARTHERON_NO_PLACING, CARTHERON_SHORT_ROOM,
 };
 
-/* Reports what is wrong and ends the run. */
-static _Noreturn void give_up(const struct contest *contest, const char *words)
-{
-    report(contest, words);
-    exit(1);
-}
+/* Those that the checker alone gives. */
+static const enum cartheron_refusal check_refusals[] = {
+    CARTHERON_NO_PLAN_TEXT, CARTHERON_NOT_PERMITTED, CARTHERON_WRONG_CLUSTER, CARTHERON_OVERLAP, CARTHERON_LATE,
+};
 
 /* The number of lines in a text; a last one that no LF ends counts. */
 static size_t count_lines(const struct text *text)
@@ -83,8 +82,8 @@ static bool is_tight(const struct reference_site *site, int order)
     return false;
 }
 
-/* Checks the plan in the library's room: its starts have to be a placing at a permitted order. Returns the
- * beacon order. */
+/* Checks the plan in the library's room: its starts have to be a placing at a permitted order, and the checker has to
+ * say yes. Returns the beacon order. */
 static int check_plan(struct contest *contest, const struct reference_site *site, uint32_t length)
 {
     uint32_t starts[REFERENCE_CLUSTERS];
@@ -96,22 +95,23 @@ static int check_plan(struct contest *contest, const struct reference_site *site
         give_up(contest, "the plan's beacon order is not permitted");
     if (!brute_is_placing(site, order, starts))
         give_up(contest, "the plan's starts are not a placing");
+    check_own_plan(contest, length);
     contest->tally->tight += is_tight(site, order);
     return order;
 }
 
 /* Checks the answer for a site that was read against what a placing is: the plan that was written, and for
- * small sites also that the order is the longest or that the refusal is due. */
-static void check_placing(struct contest *contest, uint32_t answer)
+ * small sites also that the order is the longest or that the refusal is due. Returns the plan's beacon order, or -1. */
+static int check_placing(struct contest *contest, uint32_t answer)
 {
     struct reference_site site;
     int refusal = (int)(answer >> 16);
 
     if (reference_read(contest->text.bytes, contest->text.length, &site) != 0)
-        return;
-    int order = refusal == 0 ? check_plan(contest, &site, answer) : 0;
+        return -1;
+    int order = refusal == 0 ? check_plan(contest, &site, answer) : -1;
     if (site.clusters > BRUTE_CLUSTERS)
-        return;
+        return order;
     struct brute_answer brute = brute_order(&site);
     contest->tally->brute++;
     if (brute.refusal != refusal || brute.order != order) {
@@ -120,22 +120,21 @@ static void check_placing(struct contest *contest, uint32_t answer)
         printf("answers    : refusal %d, beacon order %d\n", refusal, order);
         exit(1);
     }
+    return order;
 }
 
 /* Puts bytes behind the text that would be read as more of it, and a pattern for the rooms. */
 static void prepare(struct contest *contest)
 {
-    size_t behind = TEXT_CAPACITY - contest->text.length;
     uint64_t bits = roll(&contest->dice);
 
-    for (size_t i = 0; i < behind && i < 4; i++)
-        contest->text.bytes[contest->text.length + i] = once_in(&contest->dice, 2) ? '0' : '\n';
+    continue_text(&contest->dice, &contest->text);
     for (size_t i = 0; i < sizeof contest->pattern; i++)
         contest->pattern[i] = (uint8_t)(bits >> i % 57) ^ (uint8_t)i;
 }
 
-/* Runs one case and returns the plan's answer. */
-static uint32_t run_case(struct contest *contest, uint64_t number)
+/* Runs one case and returns the planner's answer; the checker's goes to *checked. */
+static uint32_t run_case(struct contest *contest, uint64_t number, uint32_t *checked)
 {
     contest->number = number;
     contest->dice = dice_of(contest->seed, number);
@@ -143,7 +142,7 @@ static uint32_t run_case(struct contest *contest, uint64_t number)
     prepare(contest);
     uint32_t answer = compare(contest, &plan, LONGEST_ROOM - below(&contest->dice, 64));
     count_answer(contest->tally, answer);
-    check_placing(contest, answer);
+    int order = check_placing(contest, answer);
     compare_rooms(contest, &plan, answer);
     compare_null(contest, &plan);
     uint32_t rewritten = compare(contest, &rewrite, LONGEST_ROOM);
@@ -151,19 +150,28 @@ static uint32_t run_case(struct contest *contest, uint64_t number)
     compare_rooms(contest, &rewrite, rewritten);
     compare_null(contest, &rewrite);
     compare_lines(contest, answer);
+    *checked = compare_check(contest, order);
+    exhaust_check(contest, order);
     return answer;
 }
 
 /* Prints what a run has seen. False if it is too little to say something. */
 static bool print_tally(const struct tally *tally)
 {
-    bool enough = tally->tight >= LEAST_SEEN;
+    bool enough = tally->tight >= LEAST_SEEN && tally->checked[0] >= LEAST_SEEN && tally->exhausted >= LEAST_SEEN;
 
     for (size_t i = 0; i < sizeof refusals / sizeof refusals[0]; i++) {
         uint64_t seen = tally->refusal[refusals[i]];
         printf("refusal %d seen %" PRIu64 " times\n", (int)refusals[i], seen);
         enough = enough && seen >= LEAST_SEEN;
     }
+    for (size_t i = 0; i < sizeof check_refusals / sizeof check_refusals[0]; i++) {
+        uint64_t seen = tally->checked[check_refusals[i]];
+        printf("refusal %d of a plan seen %" PRIu64 " times\n", (int)check_refusals[i], seen);
+        enough = enough && seen >= LEAST_SEEN;
+    }
+    printf("%" PRIu64 " plans accepted, %" PRIu64 " sites checked in all their sequences\n", tally->checked[0],
+           tally->exhausted);
     printf("%" PRIu64 " planned, %" PRIu64 " of these at a lower order than the largest that fits\n",
            tally->planned, tally->tight);
     printf("%" PRIu64 " compared with the brute force\n", tally->brute);
@@ -187,21 +195,25 @@ int main(int argc, char **argv)
 {
     static struct contest contest;
     struct tally tally = {0};
+    uint32_t checked;
 
     contest.tally = &tally;
     if (argc == 4 && strcmp(argv[1], "--case") == 0) {
         contest.seed = number_in(argv[2]);
-        uint32_t answer = run_case(&contest, number_in(argv[3]));
+        uint32_t answer = run_case(&contest, number_in(argv[3]), &checked);
         print_text(&contest.text);
         print_answer("all agree", answer);
+        printf("the plan, a ");
+        print_text(&contest.plan);
+        print_answer("all agree", checked);
         return 0;
     }
     contest.seed = argc > 1 ? number_in(argv[1]) : DEFAULT_SEED;
     uint64_t count = argc > 2 ? number_in(argv[2]) : DEFAULT_COUNT;
     for (uint64_t number = 0; number < count; number++)
-        run_case(&contest, number);
+        run_case(&contest, number, &checked);
     if (!print_tally(&tally) && count >= ENOUGH) {
-        printf("differential: a refusal or the search of orders was seen less than %d times\n", LEAST_SEEN);
+        printf("differential: a refusal, a yes or the search of orders was seen less than %d times\n", LEAST_SEEN);
         return 1;
     }
     printf("differential: %" PRIu64 " cases agree (seed %" PRIu64 ")\n", count, contest.seed);

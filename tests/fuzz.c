@@ -1,12 +1,13 @@
-/* Any bytes as a site text: the library has to answer as the plain C of tests/reference does.
+/* Any bytes as a site text: the library has to answer as the plain C of tests/reference does. The bytes before the
+ * first 00 are also a site text and those behind it a plan text, which is checked; without a 00 the bytes are both.
  *
  * With a fuzzer of clang, LIB being the library:
  *   clang -std=c11 -g -O1 -fsanitize=fuzzer,address,undefined -DCARTHERON_FUZZER -Iinclude -o fuzz \
- *       tests/fuzz.c tests/reference/read.c tests/reference/plan.c LIB
+ *       tests/fuzz.c tests/reference/read.c tests/reference/plan.c tests/reference/check.c LIB
  *   ./fuzz CORPUS_DIRECTORY
  * On files, or on standard input if none is named, also under afl:
  *   cc -std=c11 -g -O1 -fsanitize=address,undefined -Iinclude -o fuzz \
- *       tests/fuzz.c tests/reference/read.c tests/reference/plan.c LIB
+ *       tests/fuzz.c tests/reference/read.c tests/reference/plan.c tests/reference/check.c LIB
  *   ./fuzz FILE...
  *
  * Text and rooms are heap blocks of just their length. A sanitizer sees what C code touches beside them;
@@ -93,6 +94,55 @@ static void compare_place(const uint8_t *text, size_t size)
         give_up("another place", cartheron_place(text, size), reference_place(text, size));
 }
 
+/* A heap block with these bytes, or NULL for none. */
+static uint8_t *copy_of(const uint8_t *bytes, size_t length)
+{
+    uint8_t *copy = block(length);
+
+    for (size_t i = 0; i < length; i++)
+        copy[i] = bytes[i];
+    return copy;
+}
+
+/* Compares the check of a plan for a site. Returns the answer. */
+static uint32_t compare_check(const uint8_t *site, size_t site_len, const uint8_t *plan, size_t plan_len)
+{
+    uint32_t product = cartheron_check(site, site_len, plan, plan_len);
+    uint32_t reference = reference_check(site, site_len, plan, plan_len);
+
+    if (product != reference)
+        give_up("another answer to a plan", product, reference);
+    return product;
+}
+
+/* Compares the check of the plan that stands behind the site, or of the bytes for themselves. */
+static void compare_parts(const uint8_t *text, size_t size)
+{
+    const uint8_t *zero = size > 0 ? memchr(text, 0, size) : NULL;
+
+    if (zero == NULL) {
+        compare_check(text, size, text, size);
+        return;
+    }
+    size_t site_len = (size_t)(zero - text), plan_len = size - site_len - 1;
+    uint8_t *site = copy_of(text, site_len), *plan = copy_of(zero + 1, plan_len);
+    compare_check(site, site_len, plan, plan_len);
+    free(site);
+    free(plan);
+}
+
+/* The site's own plan, of this length, has to be accepted. */
+static void accept_own(const uint8_t *text, size_t size, uint32_t length)
+{
+    uint8_t *plan = block(length);
+
+    cartheron_plan(text, size, plan, length);
+    uint32_t answer = compare_check(text, size, plan, length);
+    if (answer != 0)
+        give_up("the site's own plan is refused", answer, 0);
+    free(plan);
+}
+
 /* Compares the part shown for a line. */
 static void compare_line(const uint8_t *text, size_t size, size_t line)
 {
@@ -108,16 +158,17 @@ static void compare_line(const uint8_t *text, size_t size, size_t line)
 /* Compares all functions on one text. */
 int LLVMFuzzerTestOneInput(const uint8_t *data, size_t size)
 {
-    uint8_t *text = block(size);
+    uint8_t *text = copy_of(data, size);
     size_t last = 0;
 
-    for (size_t i = 0; i < size; i++) {
-        text[i] = data[i];
+    for (size_t i = 0; i < size; i++)
         last += data[i] == '\n';
-    }
     uint32_t answer = compare_rooms(cartheron_plan, reference_plan, text, size);
     compare_rooms(cartheron_rewrite, reference_rewrite, text, size);
     compare_place(text, size);
+    compare_parts(text, size);
+    if (!CARTHERON_REFUSED(answer))
+        accept_own(text, size, answer);
     const size_t lines[] = {0, 1, CARTHERON_LINE(answer), last, last + 1, last + 2, SIZE_MAX};
     for (size_t i = 0; i < sizeof lines / sizeof lines[0]; i++)
         compare_line(text, size, lines[i]);

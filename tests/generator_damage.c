@@ -4,10 +4,10 @@
 #include <string.h>
 
 #define LONGEST_LINE 136
+#define LONGEST_RECORD 80
 #define LONGEST_TIME 1000000000u
 
-/* A place among so many: the first, the last or any; count is at least 1. */
-static size_t pick(struct dice *dice, size_t count)
+size_t pick(struct dice *dice, size_t count)
 {
     switch (below(dice, 4)) {
     case 0: return 0;
@@ -16,8 +16,7 @@ static size_t pick(struct dice *dice, size_t count)
     }
 }
 
-/* One of so many values. */
-static uint8_t one_of(struct dice *dice, const uint8_t *values, size_t count)
+uint8_t one_of(struct dice *dice, const uint8_t *values, size_t count)
 {
     return values[below(dice, count)];
 }
@@ -55,8 +54,7 @@ static void damage_kind(struct dice *dice, struct draft *draft)
     line->bytes[0] = one_of(dice, kinds, sizeof kinds);
 }
 
-/* A line too many: a copy of another one, or of any bytes, at the end or at any place. */
-static void add_line(struct dice *dice, struct draft *draft)
+void add_line(struct dice *dice, struct draft *draft)
 {
     size_t place = once_in(dice, 2) ? draft->lines : pick(dice, draft->lines);
     struct draft_line extra = *any_line(dice, draft);
@@ -73,8 +71,7 @@ static void add_line(struct dice *dice, struct draft *draft)
     draft->lines++;
 }
 
-/* A line missing, or all from some line on; one line is kept so that others can be damaged. */
-static void drop_line(struct dice *dice, struct draft *draft)
+void drop_line(struct dice *dice, struct draft *draft)
 {
     size_t place = pick(dice, draft->lines);
 
@@ -91,7 +88,7 @@ static void drop_line(struct dice *dice, struct draft *draft)
 /* A record some bytes longer or shorter than it should be, of any kind of line. */
 static void damage_length(struct dice *dice, struct draft *draft)
 {
-    static const uint8_t lengths[] = {1, 2, 3, 4, 5, 10, 11, 12, 68, 69, 70, DRAFT_BYTES};
+    static const uint8_t lengths[] = {1, 2, 3, 4, 5, 10, 11, 12, 68, 69, 70, LONGEST_RECORD};
     struct draft_line *line = any_line(dice, draft);
 
     switch (below(dice, 3)) {
@@ -99,7 +96,7 @@ static void damage_length(struct dice *dice, struct draft *draft)
     case 1: line = flow_line(dice, draft); break;
     }
     switch (below(dice, 3)) {
-    case 0: line->length += line->length < DRAFT_BYTES; break;
+    case 0: line->length += line->length < LONGEST_RECORD; break;
     case 1: line->length -= line->length > 1; break;
     default: line->length = one_of(dice, lengths, sizeof lengths); break;
     }
@@ -144,7 +141,7 @@ static void damage_tag_length(struct dice *dice, struct draft_line *line)
     uint8_t length = one_of(dice, lengths, sizeof lengths);
 
     line->bytes[3] = length;
-    if (once_in(dice, 2) || length > DRAFT_BYTES - 4)
+    if (once_in(dice, 2) || length > LONGEST_RECORD - 4)
         return;
     for (size_t i = line->length; i < (size_t)length + 4; i++)
         line->bytes[i] = 0x41;
@@ -179,7 +176,7 @@ static void damage_tag(struct dice *dice, struct draft *draft, size_t number)
     const struct draft_line *earlier = cluster_line(draft, pick(dice, number > 0 ? number : 1));
 
     line->length = earlier->length;
-    memmove(line->bytes + 3, earlier->bytes + 3, DRAFT_BYTES - 3);
+    memmove(line->bytes + 3, earlier->bytes + 3, LONGEST_RECORD - 3);
     if (once_in(dice, 2) || line->length < 6)
         return;
     if (once_in(dice, 2))
@@ -229,8 +226,7 @@ static void damage_time(struct dice *dice, struct draft_line *line)
     uint32_t time = times[below(dice, sizeof times / sizeof times[0])];
     size_t place = 3 + 4 * below(dice, 2);
 
-    for (size_t i = 0; i < 4; i++)
-        line->bytes[place + i] = (uint8_t)(time >> (24 - 8 * i));
+    put_number(line, place, time);
 }
 
 /* A bad end or a bad time of a flow; often two of them. */

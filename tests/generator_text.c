@@ -4,11 +4,10 @@
 #include <stdio.h>
 #include <string.h>
 
-/* Adds a number of four bytes, the high byte first. */
-static void add_number(struct draft_line *line, uint32_t number)
+void put_number(struct draft_line *line, size_t place, uint32_t number)
 {
-    for (int shift = 24; shift >= 0; shift -= 8)
-        line->bytes[line->length++] = (uint8_t)(number >> shift);
+    for (size_t i = 0; i < 4; i++)
+        line->bytes[place + i] = (uint8_t)(number >> (24 - 8 * i));
 }
 
 /* The records of a site as bytes. */
@@ -28,14 +27,13 @@ static void draft_site(const struct reference_site *site, struct draft *draft)
     }
     for (size_t f = 0; f < site->flows; f++) {
         const struct reference_flow *flow = &site->flow[f];
-        *line = (struct draft_line){.length = 3, .bytes = {3, flow->source, flow->sink}};
-        add_number(line, flow->period);
-        add_number(line++, flow->deadline);
+        *line = (struct draft_line){.length = 11, .bytes = {3, flow->source, flow->sink}};
+        put_number(line, 3, flow->period);
+        put_number(line++, 7, flow->deadline);
     }
 }
 
-/* The text of the records. */
-static void write_draft(const struct draft *draft, struct text *text)
+void write_draft(const struct draft *draft, struct text *text)
 {
     text->length = 0;
     for (size_t i = 0; i < draft->lines; i++) {
@@ -47,8 +45,7 @@ static void write_draft(const struct draft *draft, struct text *text)
     }
 }
 
-/* Bytes of any kind, or digits and LFs. */
-static void make_noise(struct dice *dice, struct text *text)
+void make_noise(struct dice *dice, struct text *text)
 {
     static const char usual[] = "0123456789ABCDEF0123\n";
     size_t length = below(dice, 200);

@@ -130,14 +130,18 @@ def starts_of(site, placed):
     return starts
 
 
-def plan_text(site, order, placed):
+def plan_text(site, order, starts):
+    """The plan text of an order and the start of each cluster, in order of start."""
     records = [bytes([PLAN_HEADER, VERSION, order, site.cluster_count])]
-    starts, lengths = starts_of(site, placed), portions(site)
-    for number in placed:
-        times = starts[number].to_bytes(4, "big") + lengths[number].to_bytes(4, "big")
-        cluster = site.clusters[number]
-        records.append(bytes([PLAN_CLUSTER, number]) + times + bytes([cluster.tag_length]) + cluster.tag_kept())
+    for number in sorted(range(site.cluster_count), key=starts.__getitem__):
+        records.append(bytes([PLAN_CLUSTER, number]) + starts[number].to_bytes(4, "big") + described(site, number))
     return b"".join(record.hex().upper().encode() + b"\n" for record in records)
+
+
+def described(site, number):
+    """What a plan says of a cluster beside its number and its start: length, tag length and tag."""
+    cluster = site.clusters[number]
+    return interval(cluster.order).to_bytes(4, "big") + bytes([cluster.tag_length]) + cluster.tag_kept()
 
 
 def plan_of(site):
@@ -146,7 +150,7 @@ def plan_of(site):
     for order in orders:
         distances = shortest_distances(site.cluster_count, constraints(site, order))
         if distances is not None:
-            return plan_text(site, order, sequence(site, distances))
+            return plan_text(site, order, starts_of(site, sequence(site, distances)))
     return 8 if orders else 7, 0, NO_PLACE
 
 
@@ -177,14 +181,22 @@ def printed(text):
     return b"8F%02X%04X%02X\n" % answer if isinstance(answer, tuple) else answer
 
 
-def is_placing(site, order, starts):
-    """Whether starts keep the portions apart and inside the interval, and each flow its allowed crossings."""
+def apart_inside(site, order, starts):
+    """Whether starts keep the portions apart and inside the interval."""
     ends = [start + length for start, length in zip(starts, portions(site))]
     apart = all(ends[one] <= starts[other] or ends[other] <= starts[one]
                 for one, other in combinations(range(site.cluster_count), 2))
-    inside = all(0 <= start and end <= interval(order) for start, end in zip(starts, ends))
-    return apart and inside and all(
-        crossings(path(site, flow), starts) <= allowed(flow.deadline, interval(order)) for flow in flows(site))
+    return apart and all(0 <= start and end <= interval(order) for start, end in zip(starts, ends))
+
+
+def in_time(site, order, starts):
+    """Whether starts let each flow cross no more periods than its deadline allows."""
+    return all(crossings(path(site, flow), starts) <= allowed(flow.deadline, interval(order)) for flow in flows(site))
+
+
+def is_placing(site, order, starts):
+    """Whether starts, one a cluster, are a placing at an order."""
+    return apart_inside(site, order, starts) and in_time(site, order, starts)
 
 
 def placings(site, order):

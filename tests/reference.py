@@ -98,7 +98,7 @@ def first_bad(*fields):
 
 def take(site, number, line, ended):
     """Takes one more line into the site; its fault, a refusal number and a place, or None."""
-    if not ended or not well_formed(line):
+    if not ended or not well_formed(line) or len(line) > LONGEST_LINE:
         return whole_line(1)
     record = bytes.fromhex(line.decode())
     kind = record[0]
@@ -114,8 +114,8 @@ def take(site, number, line, ended):
 
 
 def well_formed(line):
-    """Whether a line is of digits only, an even number of them, at least 2 and at most 136."""
-    return all(c in DIGITS for c in line) and len(line) % 2 == 0 and 2 <= len(line) <= LONGEST_LINE
+    """Whether a line is of digits only, an even number of them and at least 2."""
+    return all(c in DIGITS for c in line) and len(line) % 2 == 0 and len(line) > 0
 
 
 def kind_due(site, number):
@@ -165,14 +165,14 @@ def counts_fault(site):
 
 def cluster_fault(site, i):
     """The fault of cluster i where all before it are sound, or None: of its fields, its parent or its tag."""
-    cluster = site.clusters[i]
+    cluster, tag = site.clusters[i], site.clusters[i].tag_kept()
     fault = first_bad((2, 11, cluster.order, 0, LARGEST_ORDER), (3, 12, cluster.tag_length, 1, TAG),
-                      *((4 + b, 12, byte, 0x21, 0x7E) for b, byte in enumerate(cluster.tag_kept())))
+                      *((4 + b, 12, byte, 0x21, 0x7E) for b, byte in enumerate(tag)))
     if fault:
         return fault
     if not (cluster.parent < i or i == 0 and cluster.parent == NO_PARENT):
         return whole_line(5)
-    if any(earlier.tag_kept() == cluster.tag_kept() for earlier in site.clusters[:i]):
+    if tag in [earlier.tag_kept() for earlier in site.clusters[:i]]:
         return whole_line(6)
     return None
 

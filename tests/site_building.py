@@ -30,6 +30,9 @@ class Case:
     line: int = 2
     plans: object = OPEN     # the planner's refusal, or the beacon order and the clusters in order of start
     plan_room: int = LARGEST_TEXT
+    plan: object = None      # the plan text that is checked; None for the planner's own where the site is small
+    checks: object = OPEN    # the checker's refusal, or None where it says yes
+    checks_records: object = OPEN  # the same for the patched records
 
 
 def by(number, line=0, place=NO_PLACE):
@@ -122,11 +125,15 @@ def byte_set(text, place, byte):
     return text[:place] + bytes([byte]) + text[place + 1:]
 
 
+def number_set(line, begins, width, value):
+    """The line with another number in the bytes of its record from one on."""
+    return line[:2 * begins] + line_of(*value.to_bytes(width, "big")) + line[2 * (begins + width):]
+
+
 def field_set(line, name, value, place=0):
     """The line with another value in a field; the place is that of a tag byte in its tag."""
     begins, width, _ = LAYOUT[name]
-    first = 2 * (begins + place)
-    return line[:first] + line_of(*value.to_bytes(width, "big")) + line[first + 2 * width:]
+    return number_set(line, begins + place, width, value)
 
 
 def by_field(line, name, place=0):

@@ -71,7 +71,8 @@ class Cases(unittest.TestCase):
                 order, starts = order_and_starts(planned)
                 planned = order, tuple(cluster for cluster, _ in starts)
             for stated, answer in ((case.reads, given.read if isinstance(given.read, tuple) else None),
-                                   (case.writes, given.written), (case.plans, planned)):
+                                   (case.writes, given.written), (case.plans, planned),
+                                   (case.checks, given.checked), (case.checks_records, given.records_checked)):
                 if stated != OPEN:
                     self.assertEqual(stated, answer, case)
 
@@ -118,15 +119,17 @@ class Cases(unittest.TestCase):
 
     def test_a_place_belongs_to_10_to_14_alone(self):
         for given in ANSWERS:
-            for refusal in given.read, given.written, given.planned, given.back:
+            for refusal in (given.read, given.written, given.planned, given.back, given.checked,
+                            given.records_checked):
                 if isinstance(refusal, tuple):
                     self.assertEqual(refusal[2] != NO_PLACE, 10 <= refusal[0] <= 14, given)
 
     def test_sizes_the_program_is_made_for(self):
-        stored = sum(len(demands.stored_input(case)) + len(demands.expected_output(case)) for case in CASES)
-        self.assertLess(stored, 1_450_000)
+        stored = sum(len(demands.stored_input(case)) + len(demands.answers_printed(case, given))
+                     for case, given in zip(CASES, ANSWERS))
+        self.assertLess(stored, 3_000_000)
         for case in CASES:
-            self.assertLessEqual(max(len(case.text), case.room, case.plan_room), LARGEST_TEXT)
+            self.assertLessEqual(max(len(case.text), case.room, case.plan_room, len(case.plan)), LARGEST_TEXT)
 
 
 if __name__ == "__main__":

@@ -198,10 +198,10 @@ struct brute_answer brute_order(const struct reference_site *site)
         if (brute_permitted(site, order) && brute_fits(site, order))
             search.wanted |= (order_set)1 << order;
     if (search.wanted == 0)
-        return (struct brute_answer){.refusal = 7, .order = 0};
+        return (struct brute_answer){.refusal = 7, .order = -1};
     prepare(site, &search);
     give_turns(&search, 0);
     if (search.best < 0)
-        return (struct brute_answer){.refusal = 8, .order = 0};
+        return (struct brute_answer){.refusal = 8, .order = -1};
     return (struct brute_answer){.refusal = 0, .order = search.best};
 }

@@ -12,7 +12,7 @@
 /* Sites of up to so many clusters can be tried in all their orders. */
 #define BRUTE_CLUSTERS 7
 
-/* A refusal of 7 or 8, or 0 and the beacon order. */
+/* A refusal of 7 or 8 and -1, or 0 and the beacon order. */
 struct brute_answer {
     int refusal;
     int order;

@@ -1,13 +1,16 @@
-/* What the reader and the planner share of docs/FORMATS.md: the lengths of records and the refusals. */
+/* What the reader, the planner and the checker share of docs/FORMATS.md: the lengths of records, the refusals,
+ * orders and what a deadline allows. */
 #ifndef LAYOUT_H
 #define LAYOUT_H
 
-#include <stddef.h>
-#include <stdint.h>
+#include "reference.h"
 
 #define HEADER_LENGTH 4
 #define CLUSTER_LENGTH 4
 #define FLOW_LENGTH 11
+#define PLACE_LENGTH 11
+#define PLAN_HEADER 0x81
+#define PLAN_CLUSTER 0x82
 #define LONGEST_TIME 1000000000u
 
 /* In the order in which they are tested. */
@@ -25,13 +28,30 @@ enum refusal {
     TAG_USED = 6,
     NO_FIT = 7,
     NO_PLACING = 8,
-    SHORT_ROOM = 9
+    SHORT_ROOM = 9,
+    NO_PLAN_TEXT = 20,
+    NOT_PERMITTED = 21,
+    WRONG_CLUSTER = 22,
+    OVERLAP = 23,
+    LATE = 24
 };
 
 /* The number that stands for a refusal at a line. */
 static inline uint32_t refuse(enum refusal refusal, size_t line)
 {
     return 65536u * (uint32_t)refusal + (uint32_t)line;
+}
+
+/* The length in symbols that belongs to an order. */
+static inline uint32_t symbols(unsigned order)
+{
+    return REFERENCE_BASE << order;
+}
+
+/* The periods that a deadline allows a flow to cross at this interval. */
+static inline int32_t allowed_crossings(uint32_t deadline, uint32_t interval)
+{
+    return deadline >= interval ? (int32_t)(deadline / interval) - 1 : 0;
 }
 
 #endif

@@ -1,10 +1,8 @@
 /* The planner and the two writers of docs/FORMATS.md. */
 #include "layout.h"
-#include "reference.h"
 
 #include <stdbool.h>
 
-#define PLACE_LENGTH 11
 #define CONSTRAINTS (2 * (REFERENCE_CLUSTERS - 1) + REFERENCE_FLOWS)
 #define NOT_REACHED INT32_MAX
 
@@ -20,18 +18,6 @@ struct plan {
     int32_t n[REFERENCE_CLUSTERS];
     uint8_t sequence[REFERENCE_CLUSTERS];
 };
-
-/* The length in symbols that belongs to an order. */
-static uint32_t symbols(unsigned order)
-{
-    return REFERENCE_BASE << order;
-}
-
-/* The periods that a deadline allows a flow to cross at this interval. */
-static int32_t allowed_crossings(uint32_t deadline, uint32_t interval)
-{
-    return deadline >= interval ? (int32_t)(deadline / interval) - 1 : 0;
-}
 
 /* How many steps down each flow's path has: depth of its sink minus depth of its top. */
 static void count_steps_down(const struct reference_site *site, int32_t *down)
@@ -207,10 +193,10 @@ static void put_plan(const struct reference_site *site, const struct plan *plan,
 {
     uint32_t start = 0;
 
-    out = put_header(out, 0x81, 1, (uint8_t)plan->order, site->clusters);
+    out = put_header(out, PLAN_HEADER, 1, (uint8_t)plan->order, site->clusters);
     for (size_t i = 0; i < site->clusters; i++) {
         const struct reference_cluster *cluster = &site->cluster[plan->sequence[i]];
-        out = put_bytes(out, (const uint8_t[]){0x82, plan->sequence[i]}, 2);
+        out = put_bytes(out, (const uint8_t[]){PLAN_CLUSTER, plan->sequence[i]}, 2);
         out = put_number(out, start);
         out = put_number(out, symbols(cluster->order));
         out = put_byte(out, cluster->tag_length);

@@ -50,27 +50,27 @@ static void expect_end_of_line(struct rest *rest)
         rest->sound = false;
 }
 
-/* Takes the line of a cluster that starts no earlier than the one before it ends. Returns its own end. */
-static uint32_t take_cluster(struct rest *rest, const struct reference_site *site, uint32_t earliest,
-                             bool *seen, uint32_t *starts)
+/* Takes the line of a cluster that starts no earlier than the one above. Returns its own start. */
+static uint32_t take_cluster(struct rest *rest, const struct reference_site *site, uint32_t above, bool *seen,
+                             uint32_t *starts)
 {
     expect(rest, 1, 0x82);
     uint32_t number = take(rest, 2);
     if (number >= site->clusters || seen[number]) {
         rest->sound = false;
-        return earliest;
+        return above;
     }
     const struct reference_cluster *cluster = &site->cluster[number];
     seen[number] = true;
     starts[number] = take(rest, 8);
-    if (starts[number] < earliest)
+    if (starts[number] < above)
         rest->sound = false;
     expect(rest, 4, 960u << cluster->order);
     expect(rest, 1, cluster->tag_length);
     for (size_t i = 0; i < cluster->tag_length; i++)
         expect(rest, 1, cluster->tag[i]);
     expect_end_of_line(rest);
-    return starts[number] + (960u << cluster->order);
+    return starts[number];
 }
 
 bool plan_text_read(const uint8_t *text, size_t text_len, const struct reference_site *site, int *order,
@@ -78,7 +78,7 @@ bool plan_text_read(const uint8_t *text, size_t text_len, const struct reference
 {
     struct rest rest = {.at = text, .end = text + text_len, .sound = true};
     bool seen[REFERENCE_CLUSTERS] = {false};
-    uint32_t earliest = 0;
+    uint32_t above = 0;
 
     expect(&rest, 1, 0x81);
     expect(&rest, 1, 1);
@@ -86,6 +86,6 @@ bool plan_text_read(const uint8_t *text, size_t text_len, const struct reference
     expect(&rest, 1, site->clusters);
     expect_end_of_line(&rest);
     for (size_t i = 0; i < site->clusters && rest.sound; i++)
-        earliest = take_cluster(&rest, site, earliest, seen, starts);
+        above = take_cluster(&rest, site, above, seen, starts);
     return rest.sound && rest.at == rest.end && *order <= REFERENCE_LARGEST_ORDER;
 }

@@ -1,19 +1,13 @@
 /* The reader of docs/FORMATS.md, and the lines of a text. */
 #include "layout.h"
-#include "reference.h"
+#include "lines.h"
 
-#include <stdbool.h>
 #include <string.h>
 
 #define LONGEST_RECORD 68
 #define NO_PARENT 0xFF
 #define NO_PLACE 0xFF
 #define COUNT(list) (sizeof(list) / sizeof(list)[0])
-
-struct record {
-    size_t length;
-    uint8_t bytes[LONGEST_RECORD];
-};
 
 /* A field of a record: where it begins, how many bytes it has, its range, and the refusal outside of it. */
 struct field {
@@ -46,14 +40,13 @@ static int digit(uint8_t character)
     return -1;
 }
 
-/* Decodes the line that begins at *start and moves *start behind its LF. False means refusal 1. */
-static bool decode_line(const uint8_t *text, size_t text_len, size_t *start, struct record *record)
+bool decode_line(const uint8_t *text, size_t text_len, size_t *start, size_t most, struct record *record)
 {
     size_t at = *start;
 
     record->length = 0;
     while (at < text_len && text[at] != '\n') {
-        if (text_len - at < 2 || record->length == LONGEST_RECORD)
+        if (text_len - at < 2 || record->length == most)
             return false;
         int high = digit(text[at]);
         int low = digit(text[at + 1]);
@@ -66,8 +59,7 @@ static bool decode_line(const uint8_t *text, size_t text_len, size_t *start, str
     return at < text_len && record->length > 0;
 }
 
-/* The number in so many bytes, the high byte first. */
-static uint32_t number_of(const uint8_t *bytes, size_t width)
+uint32_t number_of(const uint8_t *bytes, size_t width)
 {
     uint32_t number = 0;
 
@@ -200,7 +192,7 @@ static struct verdict read_lines(const uint8_t *text, size_t text_len, struct re
     size_t at = 0;
 
     for (*line = 1; at < text_len; (*line)++) {
-        if (!decode_line(text, text_len, &at, &record))
+        if (!decode_line(text, text_len, &at, LONGEST_RECORD, &record))
             return of_line(NOT_A_LINE);
         struct verdict verdict = read_record(&record, *line, site);
         if (verdict.refusal != NONE)

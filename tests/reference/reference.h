@@ -48,6 +48,9 @@ uint32_t reference_rewrite(const uint8_t *text, size_t text_len, uint8_t *room, 
 /* The place of the first bad field of a text that reading refuses by 10 to 14; 255 for every other text. */
 uint32_t reference_place(const uint8_t *text, size_t text_len);
 
+/* Whether a text is a plan for the site: 0 if it is, or 65,536 x refusal + line. */
+uint32_t reference_check(const uint8_t *text, size_t text_len, const uint8_t *plan, size_t plan_len);
+
 /* The part of the text shown for a line: where it begins, and its bytes without the LF. */
 size_t reference_line_start(const uint8_t *text, size_t text_len, size_t line);
 size_t reference_line_length(const uint8_t *text, size_t text_len, size_t line);
