@@ -55,7 +55,8 @@ fn all_seen(seen: &[bool; 64], n: usize) -> bool
 
 // What the lines from `behind` on come to, at an interval. They are walked once: each is asked for its
 // layout, its cluster and whether it starts where the line above ends or later, and its start is kept
-// in `starts`. No line's end is looked for: one that keeps the layout ends where its tag length says. Ends have eight bytes: a start may be as large as four bytes allow.
+// in `starts`. No line's end is looked for: one that keeps the layout ends where its tag length says.
+// Ends have eight bytes: a start may be as large as four bytes allow.
 fn walk_lines(
     site: Site,
     plan: &[u8],

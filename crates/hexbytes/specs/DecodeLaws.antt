@@ -12,20 +12,20 @@ use Rattle.hexline.specs.DigitLaws.{between-true}
 use Rattle.hexbytes.specs.Decoded.{Decoded, nibble, pairAt, rawAt}
 use Rattle.hexbytes.specs.Blocks.{laid, laid-filled}
 
-nibble-digit : (b : ℕ) → isDigit b ≡ true → nibble b % 16 ≡ digit b
+pub nibble-digit : (b : ℕ) → isDigit b ≡ true → (nibble b ≡ digit b) × (nibble b < 16)
 unfolding isDigit digit
 nibble-digit b e = elim (decide (between 48 57 b)) [
   | inl p ↦
       let h = between-true 48 57 b p in
       let q : b / 64 ≡ 0 = omega arith in
       let r : b % 16 ≡ b - 48 = omega arith in
-      rw (p, q, r) (omega arith)
+      rw (p, q, r) (omega arith, omega arith)
   | inr p ↦
       let f : between 65 70 b ≡ true = rw p at e in
       let h = between-true 65 70 b f in
       let q : b / 64 ≡ 1 = omega arith in
       let r : b % 16 ≡ b - 64 = omega arith in
-      rw (p, f, q, r) (omega arith)
+      rw (p, f, q, r) (omega arith, omega arith)
 ]
 
 module _ (l : List ℕ) (n : ℕ) (even : length l ≡ 2 * n) (all : allDigits l ≡ true) where
@@ -34,7 +34,7 @@ module _ (l : List ℕ) (n : ℕ) (even : length l ≡ 2 * n) (all : allDigits l
   raw-byte k h =
       let p = nibble-digit (getD l (2 * k) 0) (every-at _ _ (2 * k) all (omega arith)) in
       let q = nibble-digit (getD l (2 * k + 1) 0) (every-at _ _ (2 * k + 1) all (omega arith)) in
-      rw (p, q)
+      omega (arith, p .0, p .1, q .0, q .1)
 
   raw-bytes : (o : List ℕ) → filled (rawAt l) o n ≡ filled (byteAt l) o n
   raw-bytes o = filled-same (rawAt l) (byteAt l) o n raw-byte

@@ -12,7 +12,7 @@ ghost use Rattle.hexbytes.specs.Blocks.{laid};
 ghost use Rattle.hexbytes.specs.Decoded.{Decoded, nibble as nibbleOf, pairAt, rawAt};
 
 // The value of a digit, without a test; some number for another character.
-fn nibble(c: u8) -> u8
+pub fn nibble(c: u8) -> u8
     ensures { λ r. ⌜ r ≡ nibbleOf c ⌝ }
 {
     c % 16 + 9 * (c / 64)

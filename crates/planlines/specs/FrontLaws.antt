@@ -4,7 +4,7 @@ use mathlib.Core.Path.{_≡_, sym, ap, _∙_}
 use mathlib.Core.Bool.{Bool, true, false, not, true≢false}
 use mathlib.Core.List.{List, [], _∷_}
 use mathlib.Core.Logic.{inl, inr}
-use Prim.Native.Nat.{ℕ, _+_, _-_, _*_, _/_, _%_, _≤_, _<_}
+use Prim.Native.Nat.{ℕ, _+_, _*_, _≤_, _<_}
 use native.Mathlib.Nat.{zero-add}
 use native.Mathlib.Omega.{arith}
 use lib.Dec.{leb, ltb, eqb}
@@ -12,8 +12,8 @@ use lib.ListN.{length, getD, take}
 use lib.Seq.{length-take-le, getD-take}
 use borrow.Author.Tests.{ltb-true, ltb-false, leb-false, eqb-true, not-false, lt-ltb, le-ltb, lt-leb, eq-eqb, ne-eqb}
 use Rattle.hexline.specs.Loops.{decide, every, every-at, every-all}
-use Rattle.hexline.specs.Digits.{between, isDigit, digit, allDigits, byteAt, numberAt}
-use Rattle.hexline.specs.DigitLaws.{between-true, below-digits, byte-taken, number-taken}
+use Rattle.hexline.specs.Digits.{isDigit, allDigits, byteAt, numberAt}
+use Rattle.hexline.specs.DigitLaws.{below-digits, byte-taken, number-taken}
 use Rattle.hexline.specs.Lines.{lineLength}
 use Rattle.hexline.specs.LineLaws.{firstRow, none-of, line-within, line-ends, line-ended, line-passes}
 use Rattle.hexbytes.specs.Blocks.{every-join}
@@ -30,15 +30,6 @@ pub record KeptFront (rest : List ℕ) : Type 0 where
   pub kind : byteAt rest 0 ≡ 130
   pub inside : endIn rest < length rest
   pub ended : getD rest (endIn rest) 0 ≡ 10
-
--- the value of a digit, without a test
-pub digit-value : (b : ℕ) → isDigit b ≡ true → (b % 16 + 9 * (b / 64) ≡ digit b) × (b % 16 + 9 * (b / 64) < 16)
-unfolding isDigit digit
-digit-value b e = elim (decide (between 48 57 b)) [
-  | inl p ↦ let h = between-true 48 57 b p in let q : b / 64 ≡ 0 = omega arith in let r : b % 16 ≡ b - 48 = omega arith in rw (p, q, r) (omega arith, omega arith)
-  | inr p ↦ let f : between 65 70 b ≡ true = rw p at e in let h = between-true 65 70 b f in let q : b / 64 ≡ 1 = omega arith in let r : b % 16 ≡ b - 64 = omega arith in
-      rw (p, f, q, r) (omega arith, omega arith)
-]
 
 -- a digit is no LF
 digit-goes-on : (b : ℕ) → isDigit b ≡ true → not (eqb b 10) ≡ true

@@ -73,7 +73,7 @@ fn value(c: u8) -> u32
     requires { ⌜ isDigit c ≡ true ⌝ }
     ensures { λ r. ⌜ (r ≡ digit c) × (r < 16) ⌝ }
 {
-    (c % 16 + 9 * (c / 64)) as u32
+    hexbytes::nibble(c) as u32
 }
 
 // Byte k of a line whose first 22 characters are digits.
