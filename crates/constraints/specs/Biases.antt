@@ -1,5 +1,5 @@
 -- The bias does not matter: constraints settle as their biased forms do, where no debit is above the bias. And the entries of a site say its constraints, biased.
-use Rattle.std.specs.Prelude.{◌≡◌, true, ℕ, zero, suc, ◌+◌, ◌-◌, ◌≤◌, ◌<◌, leb, set}
+use Rattle.std.specs.Prelude.{◌≡◌, ℕ, zero, suc, ◌+◌, ◌-◌, ◌≤◌, ◌<◌, leb, set}
 use Rattle.std.proofs.Math.Path.{refl, sym, ap}
 use Rattle.std.proofs.Common.{◌∙◌}
 use mathlib.Core.List.{List, [], ◌∷◌, ◌++◌, map, map-append}
@@ -11,15 +11,13 @@ use Rattle.model.specs.ConstraintLaws.{tree_each}
 use Rattle.model.specs.Constraints.{Constraint, tree_constraints, descent, flow_constraint, flow_constraints, constraints}
 use Rattle.model.specs.Counting.{Each, at}
 use Rattle.model.specs.CountingLaws.{passes_or_fails, each_imply, each_map, each_append, map_values, map_falling}
-use Rattle.model.specs.CrossingLaws.{Allows, each_allows}
-use Rattle.model.specs.Crossings.{all_allow}
 use Rattle.model.specs.Orders.{interval}
 use Rattle.model.specs.Relaxing.{okay, all_okay, relax, round, settled_within}
 use Rattle.model.specs.RelaxingLaws.{okay_if, broken_if, relax_keeps, relax_lowers, relax_refuses, settle_ends}
-use Rattle.model.specs.Sites.{Flow, Site, size, parent, deadlines, Sound}
+use Rattle.model.specs.Sites.{Flow, Site, size, parent, Sound}
 use Rattle.model.specs.TreeLaws.{depth_at_most}
 use Rattle.constraints.specs.declared.Constraint.{Constraint as Entry}
-use Rattle.constraints.specs.Entries.{bias, entry, meaning, tree_entries, flow_entries, limits_of}
+use Rattle.constraints.specs.Entries.{bias, meaning, tree_entries, flow_entries, limits_of}
 
 -- a constraint with its limit behind the bias
 abbrev pub biased : Constraint → Constraint
@@ -100,16 +98,15 @@ module _ (s : Site) (order : ℕ) where
   abbrev entries : List Flow → List Entry
   entries fs = flow_entries (map (λ f. f.source) fs) (map (λ f. f.sink) fs) (limits_of (map (descent s) fs) (map (λ f. f.deadline) fs) (interval order))
 
-  flow_entries_say : (fs : List Flow) → Each (Allows (interval order)) fs → map meaning (entries fs) ≡ map biased (map (flow_constraint s order) fs)
+  flow_entries_say : (fs : List Flow) → map meaning (entries fs) ≡ map biased (map (flow_constraint s order) fs)
   unfolding flow_entries limits_of
-  flow_entries_say [] h = refl
-  flow_entries_say (f ∷ fs) h = rw (h.0.1, limits_of, flow_entries) (ap (λ (ks : List Constraint). meaning (entry f.sink f.source (h.0.0 + bias - descent s f)) ∷ ks) (flow_entries_say fs h.1))
+  flow_entries_say [] = refl
+  flow_entries_say (f ∷ fs) = ap (λ ks. biased (flow_constraint s order f) ∷ ks) (flow_entries_say fs)
 
-  -- where every deadline allows some number
-  pub site_entries_say : all_allow (deadlines s) (interval order) ≡ true → map meaning (entries s.flows ++ tree_entries (parent s) (size s - 1)) ≡ map biased (constraints s order)
+  pub site_entries_say : map meaning (entries s.flows ++ tree_entries (parent s) (size s - 1)) ≡ map biased (constraints s order)
   unfolding constraints
-  site_entries_say h = let flows = flow_constraints s order in
+  site_entries_say = let flows = flow_constraints s order in
       map-append meaning (entries s.flows) (tree_entries (parent s) (size s - 1))
-      ∙ ap (λ ks. ks ++ map meaning (tree_entries (parent s) (size s - 1))) (flow_entries_say s.flows (each_allows (interval order) s.flows h))
+      ∙ ap (λ ks. ks ++ map meaning (tree_entries (parent s) (size s - 1))) (flow_entries_say s.flows)
       ∙ ap (λ ks. map biased flows ++ ks) (tree_entries_say (parent s) (size s - 1))
       ∙ sym (map-append biased flows (tree_constraints (parent s) (size s - 1)))

@@ -1,12 +1,9 @@
 -- The constraints as a list of small structs, each with its from, its to and its limit (docs/FORMATS.md, "The plan that is returned"). A limit may be below 0, so it stands
 -- behind a bias of 64: that N(to) - N(from) is at most the limit is N(to) + 64 ≤ N(from) + what stands in the entry.
 use Rattle.std.specs.Prelude.{List, [], ◌∷◌, ◌++◌, ℕ, ◌+◌, ◌-◌, ◌≤◌, ◌<◌, length}
-use Rattle.std.proofs.Math.Option.{Option, none, some}
 use Rattle.model.specs.Constraints.{Constraint}
 use Rattle.model.specs.Counting.{at, values, falling}
 use Rattle.model.specs.Crossings.{allowed}
-use Rattle.constraints.specs.declared.Allowance.{Allowance}
-use Rattle.constraints.specs.declared.Allowance.TheVariants.{Crossings, TooShort}
 use Rattle.constraints.specs.declared.Constraint.{Constraint as Entry}
 
 abbrev pub bias : ℕ
@@ -46,16 +43,11 @@ flow_entries (s ∷ ss) (t ∷ ts) (l ∷ ls) = entry t s l ∷ flow_entries ss 
 abbrev pub site_entries : List ℕ → List ℕ → List ℕ → List ℕ → List Entry
 site_entries ps ss ts ls = flow_entries ss ts ls ++ tree_entries (at ps) (length ps - 1)
 
--- what the code says that a deadline allows
-unfoldable pub allowed_as : Allowance → Option ℕ
-allowed_as (Crossings most) = some most
-allowed_as TooShort = none
-
--- the flows' limits in place of their deadlines, from their descents at an interval: one after another, up to the first deadline that allows none
+-- the flows' limits from their descents and deadlines, at an interval
 unfoldable pub limits_of : List ℕ → List ℕ → ℕ → List ℕ
-limits_of [] es p = es
+limits_of [] es p = []
 limits_of (d ∷ ds) [] p = []
-limits_of (d ∷ ds) (e ∷ es) p = elim (allowed e p) [ none ↦ e ∷ es | some most ↦ (most + bias - d) ∷ limits_of ds es p ]
+limits_of (d ∷ ds) (e ∷ es) p = (allowed e p + bias - d) ∷ limits_of ds es p
 
 -- no flow descends by more than 63
 abbrev pub Shallow : List ℕ → Type 0

@@ -1,17 +1,11 @@
 -- Laws of the list of entries: how many there are and which stands at a place. And the limits that it is made with, one after another.
-use Rattle.std.specs.Prelude.{◌≡◌, refl, List, [], ◌∷◌, ◌++◌, length, get_or, set, take, drop}
-use Rattle.std.proofs.Common.{sym, ap, ◌∙◌, append_assoc, add-one, arith, length-append, drop_of_length-le, take-append-drop, get_or-append-add}
-use Rattle.std.proofs.Math.Option
-use Rattle.std.proofs.Math.Option.{Option, none, some}
-use Prim.Native.Nat.{ℕ, zero, suc, ◌+◌, ◌-◌, ◌*◌, ◌≤◌, ◌<◌}
+use Rattle.std.specs.Prelude.{◌≡◌, refl, List, [], ◌∷◌, ◌++◌, ℕ, zero, suc, ◌+◌, ◌-◌, ◌*◌, ◌/◌, ◌≤◌, ◌<◌, length, get_or, set, take}
+use Rattle.std.proofs.Common.{sym, ap, ◌∙◌, add-one, arith, length-append, get_or-append-add, take-suc, take-suc-set}
 use Rattle.std.proofs.Math.ListN.{get_or-append}
-use Rattle.std.proofs.Math.Seq.{drop-cons, drop-set-lt, take-suc-set}
 use Rattle.model.specs.Counting.{at, values, falling}
 use Rattle.model.specs.CountingLaws.{values_length, falling-length, values-get_or, falling-get_or}
-use Rattle.model.specs.Crossings.{allowed}
-use Rattle.constraints.specs.declared.Allowance.{Allowance}
-use Rattle.constraints.specs.declared.Allowance.TheVariants.{Crossings, TooShort}
-use Rattle.constraints.specs.Entries.{allowed_as, bias, entry, blank, upward, downward, tree_entries, flow_entries, site_entries, limits_of}
+use Rattle.model.specs.CrossingLaws.{allowed_divides}
+use Rattle.constraints.specs.Entries.{bias, entry, blank, upward, downward, tree_entries, flow_entries, site_entries, limits_of}
 
 -- ## How many there are
 
@@ -85,36 +79,23 @@ module _ (ps ss ts ls : List ℕ) (a : length ts ≡ length ss) (b : length ls �
       let child : 1 + j ≡ j + 1 = omega arith in
       in_tree place (omega arith) ∙ ap (λ (n : ℕ). get_or (tree_entries (at ps) (length ps - 1)) n blank) behind ∙ (rw child at (tree_down (at ps) (length ps - 1) j (omega arith)))
 
--- ## What a deadline allows
+-- ## The flows' limits
 
--- what is said of it is said in one way
-pub allowed_once : (a b : Allowance) → allowed_as a ≡ allowed_as b → a ≡ b
-unfolding allowed_as
-allowed_once (Crossings n) (Crossings m) e = ap Crossings (ap (λ (r : Option ℕ). Option.get_or r 0) e)
-allowed_once (Crossings n) TooShort e = let z : ◌≡◌ {A = ℕ} 0 1 = cc in absurd (omega arith)
-allowed_once TooShort (Crossings m) e = let z : ◌≡◌ {A = ℕ} 0 1 = cc in absurd (omega arith)
-allowed_once TooShort TooShort e = refl
+pub limits-length : (ds es : List ℕ) (p : ℕ) → length es ≡ length ds → length (limits_of ds es p) ≡ length ds
+unfolding limits_of
+limits-length [] es p h = refl
+limits-length (d ∷ ds) [] p h = omega arith
+limits-length (d ∷ ds) (e ∷ es) p h = ap suc (limits-length ds es p (omega arith))
 
--- ## The flows' limits, made one after another
+pub limit_at : (ds es : List ℕ) (p i : ℕ) → length es ≡ length ds → i < length ds → at (limits_of ds es p) i ≡ at es i / p - 1 + bias - at ds i
+unfolding limits_of
+limit_at [] es p i h l = absurd (omega arith)
+limit_at (d ∷ ds) [] p i h l = absurd (omega arith)
+limit_at (d ∷ ds) (e ∷ es) p zero h l = rw (allowed_divides e p)
+limit_at (d ∷ ds) (e ∷ es) p (suc i) h l = limit_at ds es p i (omega arith) (omega arith)
 
--- what is made of the deadlines from the i-th on, behind what stands before them
-module _ (ds : List ℕ) (p i : ℕ) (l : List ℕ) where
-  abbrev pub limits_from : List ℕ
-  limits_from = take i l ++ limits_of (drop i ds) (drop i l) p
-
-  pub limits_end : length ds ≤ i → limits_from ≡ l
-  unfolding limits_of
-  limits_end h = rw (drop_of_length-le ds h, limits_of) (take-append-drop i l)
-
-  -- a deadline that allows none leaves the rest as it is
-  pub limits_stop : i < length ds → i < length l → allowed (at l i) p ≡ none → limits_from ≡ l
-  unfolding limits_of
-  limits_stop h k e = rw (drop-cons ds i 0 h, drop-cons l i 0 k, limits_of, e, ← drop-cons l i 0 k) (take-append-drop i l)
-
-  -- any other gives way to its flow's limit
-  pub limits_next : {most : ℕ} → i < length ds → i < length l → allowed (at l i) p ≡ some most
-      → let x : ℕ = most + bias - at ds i in take (i + 1) (set l i x) ++ limits_of (drop (i + 1) ds) (drop (i + 1) (set l i x)) p ≡ limits_from
-  unfolding limits_of
-  limits_next {most} h k e = let x : ℕ = most + bias - at ds i in
-      rw (add-one, take-suc-set l i x k, drop-set-lt (suc i) l i x (omega arith), drop-cons ds i 0 h, drop-cons l i 0 k, limits_of, e)
-      (append_assoc (take i l) (x ∷ []) (limits_of (drop (suc i) ds) (drop (suc i) l) p))
+-- the limit of one flow more, stored behind the first i
+pub limits_next : (ds es : List ℕ) (p i x : ℕ) (l : List ℕ) → length es ≡ length ds → i < length ds → i < length l → x ≡ at es i / p - 1 + bias - at ds i
+    → take i l ≡ take i (limits_of ds es p) → take (i + 1) (set l i x) ≡ take (i + 1) (limits_of ds es p)
+limits_next ds es p i x l h j k is front =
+    rw (add-one, take-suc-set l i x k, take-suc (limits_of ds es p) i 0 (omega (arith, limits-length ds es p h)), limit_at ds es p i h j) (ap (λ (ls : List ℕ). ls ++ (x ∷ [])) front ∙ ap (λ (y : ℕ). take i (limits_of ds es p) ++ (y ∷ [])) is)

@@ -1,9 +1,8 @@
 // The constraints on N, each at its place of a list, and the limits of the flows that they are made
 // with (docs/FORMATS.md, "The plan that is returned").
-ghost use Rattle.std.specs.Prelude.{◌≡◌, ◌+◌, ◌-◌, ◌*◌, ◌≤◌, ◌<◌, length, get_or};
-ghost use Rattle.model.specs.Crossings.{allowed as allowed_at, all_allow};
+ghost use Rattle.std.specs.Prelude.{◌≡◌, ◌+◌, ◌-◌, ◌*◌, ◌/◌, ◌≤◌, ◌<◌, length, get_or};
 ghost use Rattle.model.specs.Orders.{largest, interval};
-ghost use Rattle.constraints.specs.Entries.{allowed_as, blank, site_entries, limits_of, Shallow};
+ghost use Rattle.constraints.specs.Entries.{blank, site_entries, limits_of, Shallow};
 
 use model::Order;
 
@@ -18,44 +17,31 @@ pub struct Constraint {
 
 pub const BIAS: u32 = 64;
 
-// What a deadline allows at an order: so many crossed periods, or none where it is too short.
-#[derive(Drop)]
-pub enum Allowance {
-    Crossings(u32),
-    TooShort,
-}
-
-// The crossed periods that a deadline allows at an order: two less than the whole intervals in it, and
-// none where there are fewer. An interval is the base doubled as often as the order says, so no
-// division is by a number that only a site tells.
-pub fn allowed(deadline: u32, order: u8) -> Allowance
+// The crossed periods that a deadline allows at an order: one less than the whole intervals in it, or
+// 0. An interval is the base doubled as often as the order says, so no division is by a number that
+// only a site tells.
+pub fn allowed(deadline: u32, order: u8) -> u32
     requires { order ≤ largest }
-    ensures { allowed_as result ≡ allowed_at deadline (interval order) }
+    ensures { result ≡ deadline / interval order - 1 }
 {
     let intervals = (deadline / Order::BASE) >> order;
-    if intervals < 2 {
-        return Allowance::TooShort;
+    if intervals == 0 {
+        return 0;
     }
-    Allowance::Crossings(intervals - 2)
+    intervals - 1
 }
 
 // Turns deadlines into the limits of their flows at an order, in place: `limits` holds the deadlines
-// at first. Gives whether each deadline allows some number of crossings. The first that allows none
-// ends it: that one stays, and so do all behind it.
-pub fn limit_flows(descents: &[u8], order: u8, limits: &mut [u32]) -> bool
+// at first.
+pub fn limit_flows(descents: &[u8], order: u8, limits: &mut [u32])
     requires { (order ≤ largest) × Shallow descents.now × (length limits.old ≡ length descents.now) }
-    ensures value { result ≡ all_allow limits.old (interval order) }
-    ensures limits_after { limits.new ≡ limits_of descents.now limits.old (interval order) }
+    ensures { limits.new ≡ limits_of descents.now limits.old (interval order) }
 {
     let mut flow: usize = 0;
     while flow < limits.len() {
-        let Allowance::Crossings(most) = allowed(limits[flow], order) else {
-            return false;
-        };
-        limits[flow] = most + BIAS - descents[flow] as u32;
+        limits[flow] = allowed(limits[flow], order) + BIAS - descents[flow] as u32;
         flow += 1;
     }
-    true
 }
 
 // The constraint at a place of the list. One for each flow comes first, from its sink to its source.

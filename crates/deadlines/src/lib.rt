@@ -1,13 +1,12 @@
 // What the flows of a site ask of a plan: an order that their periods permit, and starts at which none
 // of them is late (docs/FORMATS.md, "Orders and lengths", "Allowed and actual crossings").
-ghost use Rattle.std.specs.Prelude.{◌≡◌, not, ◌&&◌, ◌≢◌, ℕ, ◌≤◌, ◌<◌, length};
+ghost use Rattle.std.specs.Prelude.{◌≡◌, not, ◌≢◌, ℕ, ◌≤◌, ◌<◌, length};
 ghost use Rattle.model.specs.Constraints.{flow_constraints};
 ghost use Rattle.model.specs.Counting.{at, values};
-ghost use Rattle.model.specs.Crossings.{all_allow};
 ghost use Rattle.model.specs.CrossingsCounted.{parent_firsts};
-ghost use Rattle.model.specs.Orders.{largest, interval, permitted};
+ghost use Rattle.model.specs.Orders.{largest, permitted};
 ghost use Rattle.model.specs.Relaxing.{all_okay, depths as depths_of};
-ghost use Rattle.model.specs.Sites.{size, parent, periods, deadlines};
+ghost use Rattle.model.specs.Sites.{size, parent, periods};
 ghost use Rattle.model.specs.Trees.{Tree};
 ghost use Rattle.tree.specs.Lineage.{Lineages};
 ghost use Rattle.plantext.specs.PlanText.{site_of};
@@ -15,7 +14,6 @@ ghost use Rattle.records.specs.Check.{checked};
 ghost use Rattle.site.specs.declared.Verdict.TheVariants.{Accepted};
 ghost use Rattle.deadlines.specs.Late.{some_late};
 
-use constraints::Allowance;
 use model::{Order, wide};
 use site::Site;
 
@@ -66,12 +64,12 @@ fn count_steps(parents: &[u8], starts: &[u32; 64], counts: &mut [u8])
     }
 }
 
-// Whether each flow's deadline allows some number of crossings and its constraint holds, with the
-// counts as N: N(source) - N(sink) is at most that number less the steps that its path goes down.
+// Whether the constraint of each flow holds, with the counts as N: N(source) - N(sink) is at most the
+// crossings that its deadline allows less the steps that its path goes down.
 fn constraints_hold(site: Site, order: u8, depths: &[u8], lineages: &[u64], counts: &[u8]) -> bool
     requires site_value { (checked site ≡ Accepted) × (order ≤ largest) × (length counts.now ≡ size (site_of site)) }
     requires depths_value { (depths.now ≡ depths_of (site_of site)) × (length lineages.now ≡ size (site_of site)) × Lineages (parent (site_of site)) lineages.now }
-    ensures { result ≡ (all_allow (deadlines (site_of site)) (interval order) && all_okay (flow_constraints (site_of site) order) counts.now) }
+    ensures { result ≡ all_okay (flow_constraints (site_of site) order) counts.now }
 {
     let flows = site.flows;
     let mut j: usize = 0;
@@ -79,12 +77,9 @@ fn constraints_hold(site: Site, order: u8, depths: &[u8], lineages: &[u64], coun
         let flow = flows[j];
         let source = flow.source as usize;
         let sink = flow.sink as usize;
-        let Allowance::Crossings(most) = constraints::allowed(flow.deadline, order) else {
-            return false;
-        };
         let top = tree::top(lineages, source, sink);
         let down = wide(depths[sink] - depths[top]);
-        let allowed = most as usize;
+        let allowed = constraints::allowed(flow.deadline, order) as usize;
         if wide(counts[sink]) + allowed < wide(counts[source]) + down {
             return false;
         }

@@ -12,14 +12,11 @@ use Rattle.hexline.specs.Lines.{Row, rows, line_length, malformed}
 use Rattle.hexroom.specs.Room.{put}
 use Rattle.model.specs.declared.Order.{Order}
 use Rattle.model.specs.Counting.{at as number_in, values}
-use Rattle.model.specs.Crossings.{allowed as allowed_at, all_allow}
 use Rattle.model.specs.Orders.{portion, interval, length_at, permitted}
 use Rattle.model.specs.Plans.{plan as plan_of}
 use Rattle.model.specs.Trees.{depth, top as top_of}
 use Rattle.tree.specs.Lineage.{lineage, Lineages}
-use Rattle.constraints.specs.declared.Allowance.{Allowance}
-use Rattle.constraints.specs.Entries.{allowed_as, blank, site_entries, limits_of}
-use Rattle.constraints.specs.EntryLaws.{allowed_once}
+use Rattle.constraints.specs.Entries.{blank, site_entries, limits_of}
 use Rattle.model.specs.Sites as model
 use Rattle.search.specs.declared.Figures.{Figures}
 use Rattle.search.specs.declared.Found.{Found}
@@ -113,8 +110,8 @@ pub record EqualResults : Type 0 where
   pub climb : (parents : List ℕ) → OneResultInRoom (values (depth (number_in parents)) 0 (length parents)) (values (lineage (number_in parents)) 0 (length parents))
   pub top : (sets : List ℕ) (a b r₁ r₂ : ℕ) → ((parent : ℕ → ℕ) × Lineages parent sets)
       → ((parent : ℕ → ℕ) → Lineages parent sets → r₁ ≡ top_of parent a b) → ((parent : ℕ → ℕ) → Lineages parent sets → r₂ ≡ top_of parent a b) → r₁ ≡ r₂
-  pub limit_flows : (descents deadlines : List ℕ) (order : ℕ) → OneResultInRoom (all_allow deadlines (interval order)) (limits_of descents deadlines (interval order))
-  pub allowed : (deadline order : ℕ) (r₁ r₂ : Allowance) → allowed_as r₁ ≡ allowed_at deadline (interval order) → allowed_as r₂ ≡ allowed_at deadline (interval order) → r₁ ≡ r₂
+  pub limit_flows : (descents deadlines : List ℕ) (order : ℕ) → OneResult (limits_of descents deadlines (interval order))
+  pub allowed : (deadline order : ℕ) → OneResult (deadline / interval order - 1)
   pub constraint_at : (place : ℕ) (parents sources sinks limits : List ℕ) → OneResult (get_or (site_entries parents sources sinks limits) place blank)
   pub sequence : (size : ℕ) (parent N : ℕ → ℕ) (room room₁ room₂ : List ℕ) (r₁ r₂ : ℕ) → Sequenced size parent N room room₁ r₁ → Sequenced size parent N room room₂ r₂ → (r₁ ≡ r₂) × (room₁ ≡ room₂)
   pub search : (figures : Figures) (before counts₁ counts₂ : List ℕ) (r₁ r₂ : Found) → ((s : model.Site) × Posed s figures)
@@ -185,8 +182,8 @@ results_are_equal = record {
       equal_results_in_room (text.ref_ptr.0, text.ref_ptr.1 + line_start text.now k) (line_at text.now k) part₁.ref_ptr part₂.ref_ptr part₁.now part₂.now (p.place, p.bytes) (q.place, q.bytes);
   climb = λ parents. equal_results_in_room (values (depth (number_in parents)) 0 (length parents)) (values (lineage (number_in parents)) 0 (length parents));
   top = λ sets a b r₁ r₂ w p q. equal_results (top_of w.0 a b) r₁ r₂ (p w.0 w.1) (q w.0 w.1);
-  limit_flows = λ descents deadlines order. equal_results_in_room (all_allow deadlines (interval order)) (limits_of descents deadlines (interval order));
-  allowed = λ deadline order r₁ r₂ p q. allowed_once r₁ r₂ (p ∙ sym q);
+  limit_flows = λ descents deadlines order. equal_results (limits_of descents deadlines (interval order));
+  allowed = λ deadline order. equal_results (deadline / interval order - 1);
   constraint_at = λ place parents sources sinks limits. equal_results (get_or (site_entries parents sources sinks limits) place blank);
   sequence = λ size parent N room room₁ room₂ r₁ r₂ p q. let placed = in_order size parent N in
       equal_results_in_room (length placed) (placed ++ drop (length placed) room) r₁ r₂ room₁ room₂ (p.number, sequenced_room size parent N room room₁ r₁ p) (q.number, sequenced_room size parent N room room₂ r₂ q);

@@ -1,6 +1,6 @@
 -- The impostors (docs/PROMISES.md, "Impostors"), each as a way to behave and a proof that no function that behaves so meets the planner's contract.
 -- Each proof computes the contract at records, most of them those of a case of docs/FORMATS.md, "Worked sites", in a room of so many bytes.
-use Rattle.std.specs.Prelude.{◌≡◌, refl, cond, eqb, length, get_or, take}
+use Rattle.std.specs.Prelude.{◌≡◌, refl, length, get_or, take}
 use Rattle.std.proofs.Common.{sym, ap, ◌∙◌, arith}
 use mathlib.Core.List.{List, [], ◌∷◌, ◌++◌, map}
 use Prim.Native.Nat.{ℕ, ◌-◌, ◌≤◌, ◌<◌, min}
@@ -12,7 +12,7 @@ use Rattle.hexline.specs.Loops.{every}
 use Rattle.hexroom.specs.Room.{handed}
 use Rattle.model.specs.Constraints.{tree_constraints, descent, constraints}
 use Rattle.model.specs.Counting.{sum_below, all_below, least_where, values}
-use Rattle.model.specs.Crossings.{allowed, all_allow}
+use Rattle.model.specs.Crossings.{allowed}
 use Rattle.model.specs.Exactness.{Permitted, Fits, Placeless, plan_is_exact}
 use Rattle.model.specs.Orders.{symbols, is_order, within_all, permitted}
 use Rattle.model.specs.Plans.{fits, candidate, planned, search, plan}
@@ -78,27 +78,23 @@ chain = cluster 255 (65 ∷ []) ∷ cluster 0 (66 ∷ []) ∷ cluster 1 (67 ∷ 
 P1 : Site
 P1 = records lone []
 
+P3 : Site
+P3 = records chain (flow 2 0 3840 3840 ∷ [])
+
+P4 : Site
+P4 = records chain (flow 0 2 3840 7679 ∷ flow 2 0 3840 7679 ∷ [])
+
+P5 : Site
+P5 = records chain (flow 0 2 3840 7680 ∷ flow 2 0 3840 7680 ∷ [])
+
+P6 : Site
+P6 = records chain (flow 0 2 1000000 7680 ∷ flow 2 0 1000000 7680 ∷ [])
+
+P7 : Site
+P7 = records pair (flow 0 1 1920 1920 ∷ [])
+
 P8 : Site
 P8 = records pair (flow 0 1 1919 1920 ∷ [])
-
-P12 : Site
-P12 = records chain (flow 2 0 3840 7680 ∷ [])
-
-P13 : Site
-P13 = records chain (flow 0 2 3840 11519 ∷ flow 2 0 3840 11519 ∷ [])
-
-P14 : Site
-P14 = records chain (flow 0 2 3840 11520 ∷ flow 2 0 3840 11520 ∷ [])
-
-P15 : Site
-P15 = records chain (flow 0 2 1000000 11520 ∷ flow 2 0 1000000 11520 ∷ [])
-
-P16 : Site
-P16 = records pair (flow 0 1 1920 3840 ∷ [])
-
--- with the shorter deadline
-P17 : Site
-P17 = records lone (flow 0 0 960 1919 ∷ [])
 
 -- tags that agree in 16 bytes and differ in the 17th
 twins : Site
@@ -119,13 +115,6 @@ crowded = record { clusters = P1.clusters; flows = P1.flows; cluster_count = 1; 
 unfoldable pub first_flow : Site → Site
 first_flow s = record { clusters = s.clusters; flows = s.flows; cluster_count = s.cluster_count; flow_count = min 1 s.flow_count }
 
--- the longest deadline for each flow to itself
-unfoldable pub excused : Site → Site
-excused s = record { clusters = s.clusters; flows = map longest s.flows; cluster_count = s.cluster_count; flow_count = s.flow_count }
-  where
-    longest : Flow → Flow
-    longest f = flow f.source f.sink f.period (cond (eqb f.source f.sink) 1000000000 f.deadline)
-
 -- tags of at most sixteen bytes
 unfoldable pub cut_tags : Site → Site
 cut_tags s = record { clusters = map cut s.clusters; flows = s.flows; cluster_count = s.cluster_count; flow_count = s.flow_count }
@@ -139,21 +128,19 @@ record Worked : Type 0 where
   _p1_begins : get_or (room_after P1 (replicate 59 1)) 0 0 ≡ 56
   _p1_behind : get_or (room_after P1 (replicate 59 1)) 34 0 ≡ 1
   _p1_fits : Fits (site_of P1) 0
-  _p12_planned : answer P12 84 ≡ Plan 84 2
-  _p12_begins : get_or (room_after P12 (replicate 84 0)) 12 0 ≡ 50
-  _p14_planned : answer P14 84 ≡ Plan 84 2
-  _p14_begins : get_or (room_after P14 (replicate 84 0)) 12 0 ≡ 48
-  _p13_late : answer P13 84 ≡ Refused 8 0 255
-  _p13_first_flow : answer (first_flow P13) 84 ≡ Plan 84 2
-  _p15_accepted : checked P15 ≡ Accepted
-  _p15_plan : plan (site_of P15) ≡ planned 2 (0 ∷ 2 ∷ 1 ∷ [])
-  _p15_planned : answer P15 84 ≡ Plan 84 2
-  _p15_permitted : Permitted (site_of P15) 10
-  _p15_fits : Fits (site_of P15) 10
-  _p16_planned : answer P16 59 ≡ Plan 59 1
-  _p16_starts : let text : List ℕ = take 59 (room_after P16 (replicate 59 1)) in (starts_in text 0 ≡ 0) × (starts_in text 1 ≡ 960)
-  _p17_late : answer P17 34 ≡ Refused 8 0 255
-  _p17_excused : answer (excused P17) 34 ≡ Plan 34 0
+  _p3_planned : answer P3 84 ≡ Plan 84 2
+  _p3_begins : get_or (room_after P3 (replicate 84 0)) 12 0 ≡ 50
+  _p5_planned : answer P5 84 ≡ Plan 84 2
+  _p5_begins : get_or (room_after P5 (replicate 84 0)) 12 0 ≡ 48
+  _p4_late : answer P4 84 ≡ Refused 8 0 255
+  _p4_first_flow : answer (first_flow P4) 84 ≡ Plan 84 2
+  _p6_accepted : checked P6 ≡ Accepted
+  _p6_plan : plan (site_of P6) ≡ planned 2 (0 ∷ 2 ∷ 1 ∷ [])
+  _p6_planned : answer P6 84 ≡ Plan 84 2
+  _p6_permitted : Permitted (site_of P6) 10
+  _p6_fits : Fits (site_of P6) 10
+  _p7_planned : answer P7 59 ≡ Plan 59 1
+  _p7_starts : let text : List ℕ = take 59 (room_after P7 (replicate 59 1)) in (starts_in text 0 ≡ 0) × (starts_in text 1 ≡ 960)
   _p8_misfit : answer P8 59 ≡ Refused 7 0 255
   none_refused : answer no_site 0 ≡ Refused 10 1 2
   crowded_refused : answer crowded 0 ≡ Refused 10 1 3
@@ -163,27 +150,25 @@ record Worked : Type 0 where
   twins_cut : answer (cut_tags twins) 123 ≡ Refused 6 3 255
 
 worked : Worked
-unfolding P1 P8 P12 P13 P14 P15 P16 P17 lone pair chain twins tall tall_child crowded no_site first_flow excused cut_tags answer room_after checked clusters_verdict flows_verdict each_of cluster_checked header_verdict cluster_verdict flow_verdict first_bad wrong_parent tag_taken same_tag every site_of plan search candidate fits permitted is_order within_all symbols starts start_in sequence next_ones next ready before solve depths settled_within round relax all_okay okay constraints descent tree_constraints allowed all_allow top top_within depth total total_within values least_where all_below sum_below plan_text placed_text plan_header plan_lines plan_line placed_line cluster_line lines_of field_bytes number_bytes line_of hexes hex_of handed starts_in rows digit byte_at number_at
+unfolding P1 P3 P4 P5 P6 P7 P8 lone pair chain twins tall tall_child crowded no_site first_flow cut_tags answer room_after checked clusters_verdict flows_verdict each_of cluster_checked header_verdict cluster_verdict flow_verdict first_bad wrong_parent tag_taken same_tag every site_of plan search candidate fits permitted is_order within_all symbols starts start_in sequence next_ones next ready before solve depths settled_within round relax all_okay okay constraints descent tree_constraints allowed top top_within depth total total_within values least_where all_below sum_below plan_text placed_text plan_header plan_lines plan_line placed_line cluster_line lines_of field_bytes number_bytes line_of hexes hex_of handed starts_in rows digit byte_at number_at
 worked = record {
   _p1_planned = refl;
   _p1_begins = refl;
   _p1_behind = refl;
   _p1_fits = refl;
-  _p12_planned = refl;
-  _p12_begins = refl;
-  _p14_planned = refl;
-  _p14_begins = refl;
-  _p13_late = refl;
-  _p13_first_flow = refl;
-  _p15_accepted = refl;
-  _p15_plan = refl;
-  _p15_planned = refl;
-  _p15_permitted = refl;
-  _p15_fits = refl;
-  _p16_planned = refl;
-  _p16_starts = (refl, refl);
-  _p17_late = refl;
-  _p17_excused = refl;
+  _p3_planned = refl;
+  _p3_begins = refl;
+  _p5_planned = refl;
+  _p5_begins = refl;
+  _p4_late = refl;
+  _p4_first_flow = refl;
+  _p6_accepted = refl;
+  _p6_plan = refl;
+  _p6_planned = refl;
+  _p6_permitted = refl;
+  _p6_fits = refl;
+  _p7_planned = refl;
+  _p7_starts = (refl, refl);
   _p8_misfit = refl;
   none_refused = refl;
   crowded_refused = refl;
@@ -209,22 +194,22 @@ module _ (f : Planner) (meets : Contract f) where
       let h = answers P1 (replicate 59 1) (Plan 34 14) worked._p1_planned in
       let z : ◌≡◌ {A = ℕ} 0 1 = cc in omega arith
 
-  -- one with a fixed plan for all: P12 and P14 have texts of one length and one order, which begin with different clusters
+  -- one with a fixed plan for all: P3 and P5 have texts of one length and one order, which begin with different clusters
   pub no_fixed_plan : ((s other : Site) (room : List ℕ) (len order : ℕ) → (f s room).0 ≡ Plan len order → (f other room).0 ≡ Plan len order → (f s room).1 ≡ (f other room).1) → ⊥
   no_fixed_plan impostor =
       let room : List ℕ = replicate 84 0 in
-      let fixed = impostor P12 P14 room 84 2 (answers P12 room (Plan 84 2) worked._p12_planned) (answers P14 room (Plan 84 2) worked._p14_planned) in
-      omega (arith, ap (λ r. get_or r 12 0) (sym (leaves P12 room) ∙ fixed ∙ leaves P14 room), worked._p12_begins, worked._p14_begins)
+      let fixed = impostor P3 P5 room 84 2 (answers P3 room (Plan 84 2) worked._p3_planned) (answers P5 room (Plan 84 2) worked._p5_planned) in
+      omega (arith, ap (λ r. get_or r 12 0) (sym (leaves P3 room) ∙ fixed ∙ leaves P5 room), worked._p3_begins, worked._p5_begins)
 
-  -- one that always puts the child first: in P16 the root starts first
+  -- one that always puts the child first: in P7 the root starts first
   pub not_child_first_always : ((s : Site) (room : List ℕ) (len order : ℕ) → (f s room).0 ≡ Plan len order
       → let start : ℕ → ℕ = starts_in (take len (f s room).1) in (c : ℕ) → 0 < c → c < s.cluster_count → start c < start (get_or s.clusters c absent).parent)
       → ⊥
-  unfolding P16 pair
+  unfolding P7 pair
   not_child_first_always impostor =
       let room : List ℕ = replicate 59 1 in
-      let first = impostor P16 room 59 1 (answers P16 room (Plan 59 1) worked._p16_planned) 1 (omega arith) (omega arith) in
-      omega (arith, rw leaves at first, worked._p16_starts.0, worked._p16_starts.1)
+      let first = impostor P7 room 59 1 (answers P7 room (Plan 59 1) worked._p7_planned) 1 (omega arith) (omega arith) in
+      omega (arith, rw leaves at first, worked._p7_starts.0, worked._p7_starts.1)
 
   -- one that returns a length and leaves the room as it was: P1's text begins with the digit 8
   pub room_is_written : ((s : Site) (room : List ℕ) → (f s room).1 ≡ room) → ⊥
@@ -233,28 +218,20 @@ module _ (f : Planner) (meets : Contract f) where
       let same : room_after P1 room ≡ room = sym (leaves P1 room) ∙ impostor P1 room in
       omega (arith, ap (λ r. get_or r 0 0) same, worked._p1_begins)
 
-  -- one that looks at the first flow only: P13 has a placing for the first of its flows, and none for both
+  -- one that looks at the first flow only: P4 has a placing for the first of its flows, and none for both
   pub every_flow_counts : ((s : Site) (room : List ℕ) → (f s room).0 ≡ answer (first_flow s) (length room)) → ⊥
   every_flow_counts impostor =
       let room : List ℕ = replicate 84 0 in
-      let e = impostor P13 room ∙ worked._p13_first_flow in
-      let h = answers P13 room (Refused 8 0 255) worked._p13_late in
+      let e = impostor P4 room ∙ worked._p4_first_flow in
+      let h = answers P4 room (Refused 8 0 255) worked._p4_late in
       let z : ◌≡◌ {A = ℕ} 0 1 = cc in omega arith
 
-  -- one that excuses a flow to itself: P17 has no other, and its deadline is too short for order 0
-  pub own_flows_count : ((s : Site) (room : List ℕ) → (f s room).0 ≡ answer (excused s) (length room)) → ⊥
-  own_flows_count impostor =
-      let room : List ℕ = replicate 34 0 in
-      let e = impostor P17 room ∙ worked._p17_excused in
-      let h = answers P17 room (Refused 8 0 255) worked._p17_late in
-      let z : ◌≡◌ {A = ℕ} 0 1 = cc in omega arith
-
-  -- one that makes the length up: P1 and P16 have texts of 34 and 59 bytes in rooms of one length
+  -- one that makes the length up: P1 and P7 have texts of 34 and 59 bytes in rooms of one length
   pub length_not_invented : (invented : ℕ → ℕ) → ((s : Site) (room : List ℕ) (len order : ℕ) → (f s room).0 ≡ Plan len order → len ≡ invented (length room)) → ⊥
   length_not_invented invented impostor =
       let room : List ℕ = replicate 59 1 in
       let e = impostor P1 room 34 14 (answers P1 room (Plan 34 14) worked._p1_planned) in
-      let h = impostor P16 room 59 1 (answers P16 room (Plan 59 1) worked._p16_planned) in
+      let h = impostor P7 room 59 1 (answers P7 room (Plan 59 1) worked._p7_planned) in
       omega arith
 
   -- one that makes the line up: an order of 15 is refused by 11 at place 2, of the root at line 2 and of its child at line 3
@@ -281,13 +258,13 @@ module _ (f : Planner) (meets : Contract f) where
       let room : List ℕ = replicate 59 1 in
       impostor P1 room 34 14 (answers P1 room (Plan 34 14) worked._p1_planned) 0 (omega arith) worked._p1_fits
 
-  -- one that gives 8 where some permitted order that fits has no placing: P15 has none at order 10, and is planned at 2
+  -- one that gives 8 where some permitted order that fits has no placing: P6 has none at order 10, and is planned at 2
   pub smaller_orders_tried : ((s : Site) (room : List ℕ) (order : ℕ) → Permitted (site_of s) order → Fits (site_of s) order → Placeless (site_of s) order → (f s room).0 ≡ Refused 8 0 255) → ⊥
   smaller_orders_tried impostor =
       let room : List ℕ = replicate 84 0 in
-      let largest = ((plan_is_exact (site_of P15) (describes_sound P15 worked._p15_accepted)).planned_is 2 (0 ∷ 2 ∷ 1 ∷ []) worked._p15_plan).largest_order in
-      let e = impostor P15 room 10 worked._p15_permitted worked._p15_fits (largest 10 (omega arith) worked._p15_permitted) in
-      let h = answers P15 room (Plan 84 2) worked._p15_planned in
+      let largest = ((plan_is_exact (site_of P6) (describes_sound P6 worked._p6_accepted)).planned_is 2 (0 ∷ 2 ∷ 1 ∷ []) worked._p6_plan).largest_order in
+      let e = impostor P6 room 10 worked._p6_permitted worked._p6_fits (largest 10 (omega arith) worked._p6_permitted) in
+      let h = answers P6 room (Plan 84 2) worked._p6_planned in
       let z : ◌≡◌ {A = ℕ} 0 1 = cc in omega arith
 
   -- one that clears the bytes behind the answer: P1's text leaves byte 34 as it was

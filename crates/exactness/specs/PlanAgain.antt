@@ -31,7 +31,6 @@ use Rattle.figures.specs.SiteLaws.{clusters_counted}
 use Rattle.planlines.specs.PlanLines.{bad_header, bad_cluster, cluster_start}
 use Rattle.planlines.specs.PlanRead.{start_among, order_in}
 use Rattle.deadlines.specs.Late.{late, some_late}
-use Rattle.deadlines.specs.LateLaws.{not_late_on_time}
 use Rattle.checker.specs.Checks.{header_order, header_count, layout_broken, order_refused, wrong_line, wrong_lines, clusters_wrong, cluster_end, overlap, overlapping}
 use Rattle.checker.specs.Checks.{flow_late, plan_verdict}
 use Rattle.exactness.specs.PlanFor.{Rising, InOrderOfStart, PlanAt}
@@ -176,7 +175,7 @@ module _ (s : Site) where
 
     none_late : (order : ℕ) → some_late (site_of s) order start ≡ false → Each (OnTime (site_of s) order start) (site_of s).flows
     unfolding some_late
-    none_late order e = each_imply (site_of s).flows (not_late_on_time (site_of s) order start) (none_holds (late (site_of s) order start) (site_of s).flows e)
+    none_late order e = each_imply (site_of s).flows (λ f t. ltb-false _ _ t) (none_holds (late (site_of s) order start) (site_of s).flows e)
 
   -- ---- the theorem
 

@@ -37,7 +37,6 @@ use Rattle.figures.specs.SiteLaws.{clusters_counted, describes_sound}
 use Rattle.planlines.specs.PlanLines.{not_whole, bad_header, bad_cluster, describes}
 use Rattle.planlines.specs.PlanRead.{start_among, order_in}
 use Rattle.deadlines.specs.Late.{late, some_late}
-use Rattle.deadlines.specs.LateLaws.{on_time_not_late}
 use Rattle.checker.specs.Checks.{layout_broken, order_refused, wrong_line, wrong_lines, clusters_wrong, overlap, overlapping, flow_late, plan_verdict}
 use Rattle.roundtrip.specs.LinesBack.{row_of}
 use Rattle.exactness.specs.PlanFor.{Rising, InOrderOfStart, PlanAt}
@@ -175,7 +174,7 @@ module _ (s : Site) (accepted : checked s ≡ Accepted) where
       unfolding some_late
       none_late read same =
           let placed = same_starts_place (site_of s) order (describes_sound s accepted) start read (λ c l. sym (same c (omega (arith, clusters_counted s accepted)))) placing in
-          none_passes (late (site_of s) order read) (site_of s).flows (each_imply (site_of s).flows (on_time_not_late (site_of s) order read) placed.timely)
+          none_passes (late (site_of s) order read) (site_of s).flows (each_imply (site_of s).flows (λ f on_time. le-ltb _ _ on_time) placed.timely)
 
       -- ---- all of them
 

@@ -31,9 +31,9 @@ text (l ∷ ls) = ascii l ++ (10 ∷ text ls)
 unfoldable pub said : List String → List ℕ → Verdict
 said site plan = checked_plan (read_text (text site)).site plan
 
--- the chain of three with a flow from 2 to 0, period 3,840 and deadline 7,680 (P12): orders up to 2 are permitted, and at 2, whose interval is 3,840, 0 crossings are allowed
+-- the chain of three with a flow from 2 to 0, period and deadline 3,840 (P3): orders up to 2 are permitted, and at 2, whose interval is 3,840, no crossing is allowed
 abbrev pub chain : List String
-chain = "01010301" ∷ "02FF000141" ∷ "0200000142" ∷ "0201000143" ∷ "03020000000F0000001E00" ∷ []
+chain = "01010301" ∷ "02FF000141" ∷ "0200000142" ∷ "0201000143" ∷ "03020000000F0000000F00" ∷ []
 
 -- a plan for it: a header, and the clusters 2, 1 and 0 at 0, 960 and 1,920
 abbrev pub header : String
@@ -55,16 +55,6 @@ lines ls = said chain (text ls)
 -- and of a header of order 2 with three lines behind it
 abbrev pub placed : String → String → String → Verdict
 placed a b c = lines (header ∷ a ∷ b ∷ c ∷ [])
-
--- the chain with a deadline of 7,679; one cluster with a flow; root and child with a flow from 1 to 0, period 7,680 and deadline 15,359
-abbrev pub short : List String
-short = "01010301" ∷ "02FF000141" ∷ "0200000142" ∷ "0201000143" ∷ "03020000000F0000001DFF" ∷ []
-
-abbrev pub lone : String → List String
-lone flow = "01010101" ∷ "02FF000141" ∷ flow ∷ []
-
-abbrev pub pair : List String
-pair = "01010201" ∷ "02FF000141" ∷ "0200000142" ∷ "03010000001E0000003BFF" ∷ []
 
 -- two clusters whose tags agree in sixteen bytes, without flows, and a line for the first
 abbrev pub twins : List String
@@ -89,17 +79,8 @@ pub record WorkedChecks : Type 0 where
   pub order : (lines ("81010103" ∷ two ∷ one ∷ root ∷ []) ≡ Refused 23 0 255)
       × (lines ("81010303" ∷ two ∷ one ∷ root ∷ []) ≡ Refused 21 0 255)
       × (lines ("81010F03" ∷ two ∷ one ∷ root ∷ []) ≡ Refused 21 0 255)
-  -- parent before child: the flow crosses two periods, and 0 are allowed
+  -- parent before child: the flow crosses two periods, and none is allowed
   pub flow : placed "820000000000000003C00141" one "820200000780000003C00143" ≡ Refused 24 0 255
-  -- a deadline one symbol too short for order 2 (request 2026-03): the flow crosses nothing, and is late; an overlap comes before it
-  pub short_deadline : (said short (text (header ∷ two ∷ one ∷ root ∷ [])) ≡ Refused 24 0 255)
-      × (said short (text (header ∷ two ∷ "8201000003BF000003C00142" ∷ root ∷ [])) ≡ Refused 23 0 255)
-  -- one cluster with a flow to itself, at order 0: a deadline of two intervals, and of one symbol less
-  pub own_flow : (said (lone "030000000003C000000780") (text ("81010001" ∷ "820000000000000003C00141" ∷ [])) ≡ Accepted)
-      × (said (lone "030000000003C00000077F") (text ("81010001" ∷ "820000000000000003C00141" ∷ [])) ≡ Refused 24 0 255)
-  -- a deadline of 15,359 (P19) is too short for order 3, and is not for order 2
-  pub smaller_order : (said pair (text ("81010302" ∷ "820100000000000003C00142" ∷ "8200000003C0000003C00141" ∷ [])) ≡ Refused 24 0 255)
-      × (said pair (text ("81010202" ∷ "820100000000000003C00142" ∷ "8200000003C0000003C00141" ∷ [])) ≡ Accepted)
   -- no line, and a header alone
   pub nothing : (said chain [] ≡ Refused 20 0 255) × (lines (header ∷ []) ≡ Refused 22 0 255)
   -- a header, and a last line, that are not ended
@@ -146,9 +127,6 @@ worked_checks = record {
   last_start = refl;
   order = (refl, refl, refl);
   flow = refl;
-  short_deadline = (refl, refl);
-  own_flow = (refl, refl);
-  smaller_order = (refl, refl);
   nothing = (refl, refl);
   ended = (refl, refl);
   header_line_lem = (refl, refl, refl);

@@ -16,12 +16,10 @@ use Rattle.model.specs.ConstraintLaws.{Within, constraints_within, solution_step
 use Rattle.model.specs.Constraints.{Constraint, Holds, constraints, Solution}
 use Rattle.model.specs.Counting.{Each, at, bit, sum_below}
 use Rattle.model.specs.CountingLaws.{passes_or_fails, sum_less, sum_positive, sum_zero, sum_of_ones}
-use Rattle.model.specs.Crossings.{all_allow}
 use Rattle.model.specs.GreatestSolution.{Below, Pushed, Rounded, RoundFrom, rounded, SettledFrom, settled, hold_all_okay}
-use Rattle.model.specs.Orders.{interval}
-use Rattle.model.specs.RelaxingLaws.{round_keeps, settle_ends, settle_goes_on, settle_refuses, depths-length, depths_at, depths_root, solve_settles, solve_passes, solved_settles}
+use Rattle.model.specs.RelaxingLaws.{round_keeps, settle_ends, settle_goes_on, settle_refuses, depths-length, depths_at, depths_root}
 use Rattle.model.specs.Relaxing.{all_okay, round, settled_within, depths, solve}
-use Rattle.model.specs.Sites.{Site, size, parent, deadlines, Sound}
+use Rattle.model.specs.Sites.{Site, size, parent, Sound}
 use Rattle.model.specs.TreeLaws.{depth_step}
 use Rattle.model.specs.Trees.{depth}
 
@@ -223,20 +221,17 @@ module _ (s : Site) (order : ℕ) (w : Sound s) where
           (few_open (at g))
 
   pub solved : Solved s order (solve s order)
-  solved = elim (passes_or_fails (all_allow (deadlines s) (interval order))) [
-    | inl e ↦ rw (solve_settles s order e) (from_settled e (settled_within (size s) all (depths s)) (settling (size s)) solution_settles)
-    | inr e ↦ rw (solve_passes s order e) (λ N a. true≢false (sym a.allows ∙ e))
-  ]
+  unfolding solve
+  solved = from_settled (settled_within (size s) all (depths s)) (settling (size s)) solution_settles
     where
-      from_settled : all_allow (deadlines s) (interval order) ≡ true → (r : Option (List ℕ)) → SettledFrom (size s) (size s) all (depths s) r
-          → ((N : ℕ → ℕ) → Solution s order N → IsSome r)
-          → Solved s order r
-      from_settled e none a h = h
-      from_settled e (some d) a h = let z = depths_root s w.some_cluster in
-          (record { allows = e; root = omega (arith, a.falls 0); holds = a.holds }, λ N b. a.bounds N b.holds (solution_below_depths N b))
+      from_settled : (r : Option (List ℕ)) → SettledFrom (size s) (size s) all (depths s) r → ((N : ℕ → ℕ) → Solution s order N → IsSome r) → Solved s order r
+      from_settled none a h = h
+      from_settled (some d) a h = let z = depths_root s w.some_cluster in
+          (record { root = omega (arith, a.falls 0); holds = a.holds }, λ N b. a.bounds N b.holds (solution_below_depths N b))
 
   -- distances that settle have done so within clusters less one rounds
   pub solved_within : (d : List ℕ) → solve s order ≡ some d
       → (rounds_from (size s - 1) (constraints s order) (depths s) ≡ some d) × (all_okay (constraints s order) d ≡ true)
+  unfolding solve
   solved_within d e = let p = w.some_cluster in let q : size s ≡ suc (size s - 1) = omega arith in
-      settled_within_lem all d (size s - 1) (depths s) (sym (ap (λ r. settled_within r all (depths s)) q) ∙ solved_settles s order d e)
+      settled_within_lem all d (size s - 1) (depths s) (sym (ap (λ r. settled_within r all (depths s)) q) ∙ e)

@@ -9,7 +9,7 @@ use Rattle.std.proofs.Math.Dec.{ltb}
 use Rattle.std.proofs.Math.ListN.{length}
 use borrow.Author.Tests.{le-ltb, eq-eqb, eqb-true, not-false}
 use Rattle.hexline.specs.Loops.{decide, every}
-use Rattle.hexline.specs.Digits.{is_digit, all_digits_lem, byte_at}
+use Rattle.hexline.specs.Digits.{is_digit, all_digits, byte_at}
 use Rattle.hexline.specs.Lines.{Row, malformed}
 use Rattle.hexline.specs.LineLaws.{none_of, well_formed, malformed_bytes}
 use Rattle.site.specs.Lines.{size}
@@ -26,7 +26,7 @@ pub record KeptHeader (r : Row) : Type 0 where
 
 module _ (r : Row) where
   kept_header : bad_header r ≡ false → KeptHeader r
-  unfolding bad_header not_whole size all_digits_lem
+  unfolding bad_header not_whole size all_digits
   kept_header e =
       let l : List ℕ = r.chars in
       let h = none_of (malformed (length l) r ∷ not (eqb (byte_at l 0) 129) ∷ not (eqb (byte_at l 1) 1) ∷ not (eqb (length l / 2) 4) ∷ []) e in
@@ -45,8 +45,8 @@ module _ (r : Row) where
   unfolding header_in
   header_refused differs = elim (decide (bad_header r)) [ inl e ↦ rw e | inr e ↦ absurd (differs (kept_header e)) ]
 
-  all_digits_lem : KeptHeader r → all_digits_lem r.chars ≡ true
-  unfolding all_digits_lem
+  all_digits_lem : KeptHeader r → all_digits r.chars ≡ true
+  unfolding all_digits
   all_digits_lem k = rw k.long k.digits
 
   pub header_kept : KeptHeader r → Fields (byte_at r.chars 2) (byte_at r.chars 3) ≡ header_in r
@@ -61,7 +61,7 @@ module _ (r : Row) where
 pub record KeptCluster (r : Row) : Type 0 where
   pub exact : length r.chars ≡ 22 + 2 * tag_length r.chars
   pub ended : r.ended ≡ true
-  pub digits : all_digits_lem r.chars ≡ true
+  pub digits : all_digits r.chars ≡ true
   pub kind : byte_at r.chars 0 ≡ 130
 
 module _ (r : Row) where

@@ -1,5 +1,5 @@
 -- A site as the figures that the search works on, and what the search says of it.
-use Rattle.std.specs.Prelude.{◌≡◌, Bool, true, false, cond, ◌&&◌, List, [], ◌∷◌, map, ℕ, ◌-◌, ◌≤◌, ◌<◌, leb, length, take}
+use Rattle.std.specs.Prelude.{◌≡◌, Bool, true, false, ◌&&◌, List, [], ◌∷◌, map, ℕ, ◌-◌, ◌≤◌, ◌<◌, leb, length, take}
 use Rattle.std.proofs.Math.Option.{Option, none, some}
 use Rattle.model.specs.Constraints.{descent}
 use Rattle.model.specs.Counting.{at, sum_below}
@@ -8,6 +8,8 @@ use Rattle.model.specs.Plans.{Outcome, planned, no_fit, no_placing, plan}
 use Rattle.model.specs.Relaxing.{depths, solve}
 use Rattle.model.specs.Sequences.{sequence}
 use Rattle.model.specs.Sites.{Site, size, portion_of, periods, Sound}
+use Rattle.relaxing.specs.declared.Settling.{Settling}
+use Rattle.relaxing.specs.Steps.{settled_as}
 use Rattle.search.specs.declared.Figures.{Figures}
 use Rattle.search.specs.declared.Found.{Found}
 use Rattle.search.specs.declared.Found.TheVariants.{Order, NoFit, NoPlacing}
@@ -50,9 +52,9 @@ unfoldable pub counts_after : Option (List ℕ) → List ℕ → List ℕ
 counts_after none counts = counts
 counts_after (some d) counts = d
 
--- an order tried: whether it has a solution, which the counts after it then are
-pub record Probed (s : Site) (order : ℕ) (found : Bool) (before after : List ℕ) : Type 0 where
-  pub solution : solve s order ≡ cond found (some after) none
+-- an order tried, with the counts before and after it
+pub record Probed (s : Site) (order : ℕ) (settling : Settling) (before after : List ℕ) : Type 0 where
+  pub solution : solve s order ≡ settled_as settling after
   pub counted : after ≡ counts_after (solve s order) before
 
 -- of the orders from `start` on below `end`, none from `below` on has a solution; the one before `from` has the counts, which are as before where `from` is `start`

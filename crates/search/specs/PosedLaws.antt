@@ -1,26 +1,25 @@
 -- The list of constraints that the figures of a site give is the site's, and its clusters are there.
-use Rattle.std.specs.Prelude.{◌≡◌, Bool, true, false, List, [], ◌∷◌, ◌++◌, map, ℕ, zero, suc, ◌+◌, ◌≤◌, ◌<◌, length, take, drop}
+use Rattle.std.specs.Prelude.{◌≡◌, List, [], ◌∷◌, ◌++◌, map, ℕ, zero, suc, ◌+◌, ◌≤◌, ◌<◌, length, take, drop}
 use Rattle.std.proofs.Common.{sym, ap, ◌∙◌, append-nil, arith, length-take, drop_of_length-le}
-use Rattle.std.proofs.Math.Option.{none}
 use Rattle.std.proofs.lemmas.List.{length-map}
 use Rattle.std.proofs.Math.Seq.{take-length}
 use Rattle.model.specs.Constraints.{Constraint, descent, constraints}
 use Rattle.model.specs.ConstraintLaws.{Within, constraints_within}
 use Rattle.model.specs.Counting.{Each}
 use Rattle.model.specs.CountingLaws.{each_map}
-use Rattle.model.specs.Crossings.{all_allow}
 use Rattle.model.specs.Orders.{interval}
 use Rattle.model.specs.Relaxing.{settled_within, depths, solve}
-use Rattle.model.specs.RelaxingLaws.{depths-length, solve_settles, solve_passes}
-use Rattle.model.specs.Sites.{Flow, Site, size, deadlines, Sound}
+use Rattle.model.specs.RelaxingLaws.{depths-length}
+use Rattle.model.specs.Sites.{Flow, Site, size, Sound}
 use Rattle.constraints.specs.Biases.{biased, settle_biased, descent_shallow, constraints_covered, site_entries_say}
 use Rattle.constraints.specs.Entries.{meaning, site_entries, limits_of, Shallow}
 use Rattle.search.specs.declared.Figures.{Figures}
 use Rattle.search.specs.Posed.{Posed}
 
 module _ (s : Site) (w : Sound s) (few : size s ≤ 64) where
-  bias_settles : (order : ℕ) → all_allow (deadlines s) (interval order) ≡ true → settled_within (size s) (map biased (constraints s order)) (depths s) ≡ solve s order
-  bias_settles order allow = settle_biased (size s) (constraints s order) (depths s) (constraints_covered s w few order) ∙ sym (solve_settles s order allow)
+  bias_settles : (order : ℕ) → settled_within (size s) (map biased (constraints s order)) (depths s) ≡ solve s order
+  unfolding solve
+  bias_settles order = settle_biased (size s) (constraints s order) (depths s) (constraints_covered s w few order)
 
   each_descent : (fs : List Flow) → Each (λ f. (f.source < size s) × (f.sink < size s)) fs → Shallow (map (descent s) fs)
   each_descent [] e i l = absurd (omega arith)
@@ -90,22 +89,13 @@ module _ (s : Site) (figures : Figures) (w : Posed s figures) where
   pub descents_shallow : Shallow ds
   descents_shallow = rw w.descents_are (each_descent s w.sound w.few s.flows w.sound.ends)
 
-  -- their deadlines are the site's
-  site_allows : (order : ℕ) {b : Bool} → all_allow es (interval order) ≡ b → all_allow (deadlines s) (interval order) ≡ b
-  site_allows order h = ap (λ (l : List ℕ). all_allow l (interval order)) (sym w.deadlines_are) ∙ h
-
-  -- an order at which one allows none has no solution
-  pub short_unsolved : (order : ℕ) → all_allow es (interval order) ≡ false → solve s order ≡ none
-  short_unsolved order h = solve_passes s order (site_allows order h)
-
   -- the entries made with the limits at an order's interval say the site's constraints, biased
-  -- where every deadline allows some number there
-  module _ (order : ℕ) (limits : List ℕ) (e : limits ≡ limits_of ds es (interval order)) (allow : all_allow es (interval order) ≡ true) where
+  module _ (order : ℕ) (limits : List ℕ) (e : limits ≡ limits_of ds es (interval order)) where
     abbrev list : List Constraint
     list = map meaning (site_entries ps ss ts limits)
 
     entries_say : list ≡ map biased (constraints s order)
-    entries_say = rw (e, w.parents_are, w.sources_are, w.sinks_are, w.descents_are, w.deadlines_are) (site_entries_say s order (site_allows order allow))
+    entries_say = rw (e, w.parents_are, w.sources_are, w.sinks_are, w.descents_are, w.deadlines_are) (site_entries_say s order)
 
     -- their clusters are the site's
     pub list_within : (n : ℕ) → n ≡ size s → Each (Within n) list
@@ -113,7 +103,7 @@ module _ (s : Site) (figures : Figures) (w : Posed s figures) where
 
     -- from the depths on they settle as the site's constraints do
     pub list_settles : let levels = take clusters figures.depths in settled_within (length levels) list levels ≡ solve s order
-    list_settles = rw (w.depths_are, depths-length s, entries_say) (bias_settles s w.sound w.few order (site_allows order allow))
+    list_settles = rw (w.depths_are, depths-length s, entries_say) (bias_settles s w.sound w.few order)
 
 -- as many distances as there are depths, copied over
 pub copied : (depths counts : List ℕ) → length counts ≡ length depths → take (length depths) depths ++ drop (length depths) counts ≡ depths

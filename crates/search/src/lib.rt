@@ -77,10 +77,9 @@ fn candidates_start(end: u8, shortest: u32, total: u32) -> u8
     start
 }
 
-// Whether an order has a solution: if so `counts` gets N of each cluster, else it stays as it is. An
-// order at which some deadline allows none has no solution, and nothing is relaxed there. The relaxing
-// starts at the depths.
-fn probe(order: Order, figures: Figures, counts: &mut [u8]) -> bool
+// Fills `counts` with N of each cluster at an order, or gives that the order has no solution and
+// leaves them as they are. The relaxing starts at the depths.
+fn probe(order: Order, figures: Figures, counts: &mut [u8]) -> Settling
     requires number_le_largest { order.number ≤ largest }
     requires counts_len { (length counts.old ≡ figures.cluster_count) × ((s : Site) × Posed s figures) }
     ensures { (s : Site) → Posed s figures → Probed s order.number result counts.old counts.new }
@@ -89,9 +88,7 @@ fn probe(order: Order, figures: Figures, counts: &mut [u8]) -> bool
     let flows = figures.flow_count;
     let descents = figures.descents;
     let mut limits = figures.deadlines;
-    if !constraints::limit_flows(&descents[..flows], order.number, &mut limits[..flows]) {
-        return false;
-    }
+    constraints::limit_flows(&descents[..flows], order.number, &mut limits[..flows]);
     let parents = figures.parents;
     let sources = figures.sources;
     let sinks = figures.sinks;
@@ -106,10 +103,10 @@ fn probe(order: Order, figures: Figures, counts: &mut [u8]) -> bool
     match settling {
         Settling::Settled => {
             bytes::copy(&trial[..clusters], counts);
-            true
         }
-        Settling::NegativeLoop => false,
+        Settling::NegativeLoop => {}
     }
+    settling
 }
 
 // One more than the largest order from `start` on below `end` that has a solution, with N of each
@@ -127,10 +124,10 @@ fn solved_end(start: u8, end: u8, figures: Figures, counts: &mut [u8]) -> u8
     let mut step: u8 = 1;
     while from < below {
         let order = below - step;
-        if probe(Order::new(order), figures, counts) {
-            from = order + 1;
-        } else {
-            below = order;
+        let settling = probe(Order::new(order), figures, counts);
+        match settling {
+            Settling::Settled => from = order + 1,
+            Settling::NegativeLoop => below = order,
         }
         step = (below - from + 1) / 2;
     }

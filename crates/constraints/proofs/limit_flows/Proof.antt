@@ -1,83 +1,57 @@
--- `constraints::limit_flows` meets its contract. The invariant: with what is made of the deadlines that are left, those before `flow` are all the limits, and the deadlines that are left decide
--- whether each allows some number. A turn stores one flow's limit over its deadline, or ends at one that allows none.
+-- `constraints::limit_flows` meets its contract. The invariant: the limits so far are the front of the flows' limits, and behind them the deadlines still stand. A turn stores the limit of
+-- one flow more over its deadline.
 use mathlib.Core.Path.{◌≡◌, refl, sym, ap, ◌∙◌}
-use mathlib.Core.Option.{Option, none, some, get_or}
 use Prim.Native.Nat.{ℕ, ◌+◌, ◌-◌, ◌/◌, ◌^◌, ◌≤◌, ◌<◌}
 use native.Mathlib.Nat.{div-lt_iff_lt-mul}
 use native.Mathlib.Omega.{arith}
-use lib.ListN.{length, drop}
+use lib.ListN.{length, take}
 use lib.Pow.{pow_pos}
-use lib.Seq.{drop-set-lt}
+use lib.Seq.{take_all, get_or-set_other}
 use mir.Syntax.{w32}
 use mir.Val.{Fits}
 use Rattle.model.specs.Counting.{at}
-use Rattle.model.specs.CrossingLaws.{allowed_divides, short_decides, others_allow, none_short}
-use Rattle.model.specs.Crossings.{allowed, all_allow}
 use Rattle.model.specs.Orders.{symbols, interval}
-use Rattle.constraints.specs.declared.Allowance.{Allowance}
-use Rattle.constraints.specs.Entries.{allowed_as, limits_of}
-use Rattle.constraints.specs.EntryLaws.{limits_from, limits_end, limits_stop, limits_next}
+use Rattle.constraints.specs.Entries.{limits_of}
+use Rattle.constraints.specs.EntryLaws.{limits-length, limits_next}
 use borrow.Author.Rules.{rules}
 use Rattle.constraints.proofs.limit_flows.Statement.{statement}
 use Rattle.constraints.proofs.limit_flows.Tie as tie
 
 abbrev invariant-loop : tie.invariant-loop
 invariant-loop descents order limits₀ flow₀ limits flow =
-    (flow ≤ length limits₀)
-    × (length limits ≡ length limits₀)
-    × (limits_from descents (interval order) flow limits ≡ limits_of descents limits₀ (interval order))
-    × (all_allow (drop flow limits) (interval order) ≡ all_allow limits₀ (interval order))
+    (flow ≤ length limits₀) × (length limits ≡ length limits₀) × (take flow limits ≡ take flow (limits_of descents limits₀ (interval order))) × ((k : ℕ) → flow ≤ k → at limits k ≡ at limits₀ k)
 
 abbrev decreases-loop : tie.decreases-loop
 decreases-loop descents order limits₀ flow₀ limits flow = length limits₀ - flow
 
+-- a turn of the loop, after the allowed crossings are known
+abbrev Turn : Type 0
+Turn = tie.After-allowed invariant-loop decreases-loop
+
+abbrev was : Turn → tie.At-loop invariant-loop decreases-loop
+was turn = turn.before.before.before
+
+abbrev start : Turn → tie.Start invariant-loop decreases-loop
+start turn = (was turn).before.before.before
+
+abbrev flow : Turn → ℕ
+flow turn = (was turn).loop.flow
+
 -- a deadline of 32 bits allows few crossings
-allowed-few : (d o most : ℕ) → Fits w32 d → allowed d (interval o) ≡ some most → most < 2 ^ 31
+crossings-few : (d o r : ℕ) → Fits w32 d → r ≡ d / interval o - 1 → r < 2 ^ 31
 unfolding symbols
-allowed-few d o most f e =
+crossings-few d o r f e =
     let q : d / interval o < 2 ^ 31 = (div-lt_iff_lt-mul {k = interval o} {x = d} {y = 2 ^ 31} (omega (arith, pow_pos o))).1 (omega (arith, pow_pos o)) in
-    omega (arith, ap (λ (r : Option ℕ). get_or r 0) e, allowed_divides d (interval o))
+    omega arith
 
--- once it is known what the flow's deadline allows
-module _ (c : tie.After-allowed invariant-loop decreases-loop) where
-  abbrev was : tie.At-loop invariant-loop decreases-loop
-  was = c.before.before.before
+allowed-few : (turn : Turn) → turn.allowed.result < 2 ^ 31
+allowed-few turn = crossings-few _ _ _ (turn.before.slice-known2.given _) turn.allowed.ensures
 
-  abbrev start : tie.Start invariant-loop decreases-loop
-  start = was.before.before.before
-
-  abbrev period : ℕ
-  period = interval start.args.order
-
-  abbrev flow : ℕ
-  flow = was.loop.flow
-
-  abbrev deadline : ℕ
-  deadline = at was.loop.limits flow
-
-  said : {r : Allowance} → c.allowed.result ≡ r → allowed deadline period ≡ allowed_as r
-  said e = sym c.allowed.ensures ∙ ap allowed_as e
-
--- a turn of the loop, with the crossings that are allowed
-module _ (turn : tie.After-known-told invariant-loop decreases-loop) where
-  abbrev known : tie.After-allowed invariant-loop decreases-loop
-  known = turn.before.before.before
-
-  abbrev most : ℕ
-  most = turn.before.most.given.0.0
-
-  allows : allowed (deadline known) (period known) ≡ some most
-  unfolding allowed_as
-  allows = said known turn.before.most.given.1
-
-  few : most < 2 ^ 31
-  few = allowed-few _ (start known).args.order most (known.before.slice-known2.given _) allows
-
-  shallow : at (start known).args.descents.now (flow known) ≤ 63
-  shallow = (start known).pre.1 (flow known) (omega arith)
+shallow : (turn : Turn) → at (start turn).args.descents.now (flow turn) ≤ 63
+shallow turn = (start turn).pre.1 (flow turn) (omega arith)
 
 loop-holds : tie.Need-loop-init invariant-loop decreases-loop
-loop-holds c = (search rules, refl, refl, refl)
+loop-holds c = (search rules, refl, refl, λ k l. refl)
 
 mul-allowed : tie.Need-overflow-mul-allowed invariant-loop decreases-loop
 mul-allowed c = search rules
@@ -88,28 +62,8 @@ slice-read-allowed c = search rules
 allowed-requires : tie.Need-allowed-requires invariant-loop decreases-loop
 allowed-requires c κs = search rules
 
-enum-known-most : tie.Need-enum-known-most invariant-loop decreases-loop
-enum-known-most c = search rules
-
-enum_told : tie.Need-enum-told invariant-loop decreases-loop
-enum_told c = search rules
-
-same_length : tie.Need-same-length invariant-loop decreases-loop
-same_length c = search rules
-
-returns : tie.Need-returns invariant-loop decreases-loop
-unfolding allowed_as
-returns c =
-    let known = c.before.before in
-    let a = (start known).args in
-    let inv = (was known).loop.invariant in
-    let short : allowed (deadline known) (period known) ≡ none = said known c.enum_told.given.1 in (
-      sym (sym inv.3 ∙ short_decides (period known) (was known).loop.limits (flow known) (omega arith) short),
-      sym (limits_stop a.descents.now (period known) (flow known) (was known).loop.limits (omega arith) (omega arith) short) ∙ inv.2,
-    )
-
 add-limits : tie.Need-overflow-add-limits invariant-loop decreases-loop
-add-limits c = omega (arith, few c)
+add-limits c = omega (arith, allowed-few c)
 
 shared-slice-read-limits : tie.Need-shared-slice-read-limits invariant-loop decreases-loop
 shared-slice-read-limits c = search rules
@@ -135,28 +89,21 @@ loop-less c = search rules
 loop-again : tie.Need-loop-preserved invariant-loop decreases-loop
 loop-again c =
     let turn = c.before in
-    let known = known turn in
-    let a = (start known).args in
-    let limits = (was known).loop.limits in
-    let inv = (was known).loop.inv in
-    let next = limits_next a.descents.now (period known) (flow known) limits (omega arith) (omega arith) (allows turn) in
-    let left = drop-set-lt (flow known + 1) limits (flow known) (most turn + 64 - at a.descents.now (flow known)) (omega arith) in (
-      search rules,
-      search rules,
-      next ∙ inv.2,
-      rw left (sym (others_allow (period known) limits (flow known) (omega arith) (allows turn)) ∙ inv.3),
-    )
+    let a = (start turn).args in
+    let inv = (was turn).loop.invariant in
+    let allowed-here = turn.allowed.ensures ∙ ap (λ (deadline : ℕ). deadline / interval a.order - 1) (inv.3 (flow turn) (omega arith)) in
+    let next = limits_next a.descents.now a.limits.now (interval a.order) (flow turn) _ (was turn).loop.limits (omega arith) (omega arith) (omega arith) (ap (λ (n : ℕ). n + 64 - at a.descents.now (flow turn)) allowed-here) inv.2 in
+    (search rules, search rules, next, λ k l. get_or-set_other (was turn).loop.limits (flow turn) k _ 0 (λ e. omega arith) ∙ inv.3 k (omega arith))
 
-same-length-2 : tie.Need-same-length-2 invariant-loop decreases-loop
-same-length-2 c = search rules
+same_length : tie.Need-same-length invariant-loop decreases-loop
+same_length c = search rules
 
-returns-2 : tie.Need-returns-2 invariant-loop decreases-loop
-returns-2 c =
-    let done = c.before in
-    let a = done.before.before.before.args in (
-      sym (sym done.loop.invariant.3 ∙ none_short (interval a.order) done.loop.limits done.loop.flow (omega arith)),
-      sym (limits_end a.descents.now (interval a.order) done.loop.flow done.loop.limits (omega arith)) ∙ done.loop.invariant.2,
-    )
+returns : tie.Need-returns invariant-loop decreases-loop
+returns c =
+    let a = c.before.before.before.before.args in
+    let limits = limits_of a.descents.now a.limits.now (interval a.order) in
+    let flow = c.before.loop.flow in
+    sym (take_all flow c.before.loop.limits (omega arith)) ∙ c.before.loop.invariant.2 ∙ take_all flow limits (omega (arith, limits-length a.descents.now a.limits.now (interval a.order) (omega arith)))
 
 pub limit-flows-spec : {M : Type 1} → statement M
 limit-flows-spec =
@@ -168,10 +115,6 @@ limit-flows-spec =
     mul-allowed
     slice-read-allowed
     allowed-requires
-    enum-known-most
-    enum_told
-    same_length
-    returns
     add-limits
     shared-slice-read-limits
     cast-limits
@@ -181,5 +124,5 @@ limit-flows-spec =
     add-flow
     loop-less
     loop-again
-    same-length-2
-    returns-2)
+    same_length
+    returns)

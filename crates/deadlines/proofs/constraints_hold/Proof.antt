@@ -1,27 +1,19 @@
--- `deadlines::constraints_hold` meets its contract. The loop's invariant: the deadlines and the constraints of the flows that are left decide as all of them do. A deadline that allows none, and
--- a constraint that is broken, decides at once, any other flow leaves it to those behind it, and where none is left all hold. The top of a path is not deeper than its sink, so the difference of
--- their depths is there.
+-- `deadlines::constraints_hold` meets its contract. The loop's invariant: the constraints of the flows that are left decide as all of them do. One that is broken decides at once, any other
+-- leaves it to those behind it, and where none is left all hold. The top of a path is not deeper than its sink, so the difference of their depths is there.
 use mathlib.Core.Path.{◌≡◌, refl, sym, ap, ◌∙◌}
-use mathlib.Core.Bool.{Bool, true, false, ◌&&◌, and-false}
+use mathlib.Core.Bool.{Bool, true, false}
 use mathlib.Core.List.{List}
-use mathlib.Core.Option
-use mathlib.Core.Option.{Option}
-use Prim.Native.Nat.{ℕ, ◌+◌, ◌-◌, ◌≤◌, ◌<◌}
+use Prim.Native.Nat.{ℕ, ◌-◌, ◌≤◌, ◌<◌}
 use native.Mathlib.Omega.{arith}
 use lib.ListN.{length, get_or, take, drop, length-map, get_or-map}
 use lib.Seq.{take_all}
 use Rattle.model.specs.Constraints.{Constraint, descent, flow_constraint, flow_constraints}
 use Rattle.model.specs.Counting.{at, values}
-use Rattle.model.specs.CrossingLaws.{short_decides, others_allow, none_short}
-use Rattle.model.specs.Crossings.{allowed, all_allow}
-use Rattle.model.specs.Orders.{interval}
+use Rattle.model.specs.CrossingLaws.{allowed_divides}
 use Rattle.model.specs.Relaxing.{okay, all_okay, depths as depths_of}
 use Rattle.model.specs.RelaxingLaws.{okay_if, broken_if, broken_decides, others_decide, none_broken, depths-length}
 use Rattle.model.specs.Sites as model
-use Rattle.model.specs.Sites.{deadlines}
 use Rattle.model.specs.Trees.{Tree, depth, top as top_of}
-use Rattle.constraints.specs.declared.Allowance.{Allowance}
-use Rattle.constraints.specs.Entries.{allowed_as}
 use Rattle.plantext.specs.PlanText.{model_flow, site_of}
 use Rattle.records.specs.Check.{checked}
 use Rattle.site.specs.declared.Flow.{Flow}
@@ -36,9 +28,7 @@ use Rattle.deadlines.proofs.constraints_hold.Statement.{statement}
 use Rattle.deadlines.proofs.constraints_hold.Tie as tie
 
 abbrev invariant-loop : tie.invariant-loop
-invariant-loop site order depths lineages counts flows j₀ j =
-    (all_allow (drop j (deadlines (site_of site))) (interval order) && all_okay (drop j (flow_constraints (site_of site) order)) counts)
-    ≡ (all_allow (deadlines (site_of site)) (interval order) && all_okay (flow_constraints (site_of site) order) counts)
+invariant-loop site order depths lineages counts flows j₀ j = all_okay (drop j (flow_constraints (site_of site) order)) counts ≡ all_okay (flow_constraints (site_of site) order) counts
 
 abbrev decreases-loop : tie.decreases-loop
 decreases-loop site order depths lineages counts flows j₀ j = site.flow_count - j
@@ -81,9 +71,6 @@ module _ (c : tie.At-loop invariant-loop decreases-loop) where
 
   number : length all ≡ f
   number = length-map described.flows constraint_of ∙ flows_counted site accepted
-
-  deadlines-number : length (deadlines described) ≡ f
-  deadlines-number = length-map described.flows (λ g. g.deadline) ∙ flows_counted site accepted
 
   small : model.size described ≤ 64
   small = omega (arith, clusters_counted site accepted, (counts_bounded site accepted).1)
@@ -130,12 +117,6 @@ module _ (c : tie.Then1 invariant-loop decreases-loop) where
   is_one : j < length (all at-loop)
   is_one = omega (arith, running, number at-loop)
 
-  -- the deadline of the flow is the one at its place
-  own-deadline : get_or (deadlines (described at-loop)) j 0 ≡ flow.deadline
-  own-deadline =
-      get_or-map (λ g. g.deadline) (described at-loop).flows j (model_flow no_flow)
-      ∙ ap (λ (g : model.Flow). g.deadline) (flow_at (site at-loop) (accepted at-loop) j running)
-
   -- the constraint of the flow is the one at its place
   decides : (b : Bool) → okay constraint (counts at-loop) ≡ b → okay (get_or (all at-loop) j none) (counts at-loop) ≡ b
   decides b e =
@@ -143,45 +124,13 @@ module _ (c : tie.Then1 invariant-loop decreases-loop) where
       let own = flow_at (site at-loop) (accepted at-loop) j running in
       ap (λ (k : Constraint). okay k (counts at-loop)) (at_place ∙ ap (constraint_of at-loop) own) ∙ e
 
--- once it is known what its deadline allows
-module _ (c : tie.After-allowed invariant-loop decreases-loop) where
-  abbrev asking : tie.Then1 invariant-loop decreases-loop
-  asking = c.before.before.before.before
-
-  abbrev period : ℕ
-  period = interval (order (at-loop asking))
-
-  said : {r : Allowance} → c.allowed.result ≡ r → allowed (flow asking).deadline period ≡ allowed_as r
-  said e = sym c.allowed.ensures ∙ ap allowed_as e
-
-  said-at-place : {r : Allowance} → c.allowed.result ≡ r → allowed (get_or (deadlines (described (at-loop asking))) (j asking) 0) period ≡ allowed_as r
-  said-at-place e = ap (λ (d : ℕ). allowed d period) (own-deadline asking) ∙ said e
-
-  is-deadline : j asking < length (deadlines (described (at-loop asking)))
-  is-deadline = omega (arith, running asking, deadlines-number (at-loop asking))
-
 -- once the top of its path is known
 module _ (c : tie.After-top invariant-loop decreases-loop) where
-  abbrev known : tie.After-allowed invariant-loop decreases-loop
-  known = c.before.before.before.before
-
   abbrev turn : tie.Then1 invariant-loop decreases-loop
-  turn = asking known
+  turn = c.before.before.before.before
 
   abbrev was : tie.At-loop invariant-loop decreases-loop
   was = at-loop turn
-
-  -- the crossings that its deadline allows
-  abbrev most : ℕ
-  most = c.before.before.most.given.0.0
-
-  credit : most ≡ (constraint turn).credit
-  unfolding allowed_as
-  credit = sym (ap (λ (r : Option ℕ). Option.get_or r 0) (said known c.before.before.most.given.1))
-
-  others-allow-as : all_allow (drop (j turn) (deadlines (described was))) (period known) ≡ all_allow (drop (j turn + 1) (deadlines (described was))) (period known)
-  unfolding allowed_as
-  others-allow-as = others_allow (period known) (deadlines (described was)) (j turn) (is-deadline known) (said-at-place known c.before.before.most.given.1)
 
   tops : c.top.result ≡ top_of (model.parent (described was)) (flow turn).source (flow turn).sink
   tops = c.top.ensures _ (start was).pre.1.2
@@ -196,10 +145,13 @@ module _ (c : tie.After-top invariant-loop decreases-loop) where
 -- and once both sides of the constraint are
 module _ (c : tie.After-wide3 invariant-loop decreases-loop) where
   abbrev topped : tie.After-top invariant-loop decreases-loop
-  topped = c.before.before.before.before.before.before.before
+  topped = c.before.before.before.before.before.before.before.before
 
-  debit : c.before.before.before.before.wide.result ≡ (constraint (turn topped)).debit
-  debit = c.before.before.before.before.wide.ensures.0 ∙ down topped
+  credit : c.before.before.before.before.allowed.result ≡ (constraint (turn topped)).credit
+  credit = c.before.before.before.before.allowed.ensures ∙ sym (allowed_divides _ _)
+
+  debit : c.before.before.before.before.before.wide.result ≡ (constraint (turn topped)).debit
+  debit = c.before.before.before.before.before.wide.ensures.0 ∙ down topped
 
   of-sink : c.before.before.wide2.result ≡ at (counts (was topped)) (constraint (turn topped)).from
   of-sink = c.before.before.wide2.ensures.0
@@ -225,26 +177,9 @@ cast-source c = search rules
 cast-sink : tie.Need-overflow-cast-sink invariant-loop decreases-loop
 cast-sink c = search rules
 
-allowed-requires : tie.Need-allowed-requires invariant-loop decreases-loop
-allowed-requires c κs = (start (at-loop c.before.before.before)).pre.0.1
-
-enum-known-most : tie.Need-enum-known-most invariant-loop decreases-loop
-enum-known-most c = search rules
-
-enum_told : tie.Need-enum-told invariant-loop decreases-loop
-enum_told c = search rules
-
-returns : tie.Need-returns invariant-loop decreases-loop
-unfolding allowed_as
-returns c =
-    let known = c.before.before in
-    let here = asking known in
-    let short = short_decides (period known) (deadlines (described (at-loop here))) (j here) (is-deadline known) (said-at-place known c.enum_told.given.1) in
-    sym (sym (at-loop here).loop.inv ∙ ap (λ (b : Bool). b && all_okay (drop (j here) (all (at-loop here))) (counts (at-loop here))) short)
-
 top-requires : tie.Need-top-requires invariant-loop decreases-loop
 top-requires c κs =
-    let turn = asking c.before.before.before in
+    let turn = c.before.before.before in
     let was = at-loop turn in
     let number = (start was).pre.1.1 in
     (omega (arith, number, small was), omega (arith, number, (ends turn).0), omega (arith, number, (ends turn).1), (_, (start was).pre.1.2))
@@ -261,12 +196,15 @@ sub_wide c = omega (arith, (top-there c.before.before).1)
 wide-requires : tie.Need-wide-requires invariant-loop decreases-loop
 wide-requires c κs = search rules
 
+allowed-requires : tie.Need-allowed-requires invariant-loop decreases-loop
+allowed-requires c κs = (start (was c.before.before.before)).pre.0.1
+
 cast-allowed : tie.Need-overflow-cast-allowed invariant-loop decreases-loop
 cast-allowed c = search rules
 
 shared-slice-read-wide-3 : tie.Need-shared-slice-read-wide-3 invariant-loop decreases-loop
 shared-slice-read-wide-3 c =
-    let top = c.before.before.before.before in
+    let top = c.before.before.before.before.before in
     omega (arith, (start (was top)).pre.0.2, (ends (turn top)).1)
 
 wide-requires-2 : tie.Need-wide-requires-2 invariant-loop decreases-loop
@@ -277,7 +215,7 @@ add-if2 c = search rules
 
 shared-slice-read-wide-4 : tie.Need-shared-slice-read-wide-4 invariant-loop decreases-loop
 shared-slice-read-wide-4 c =
-    let top = c.before.before.before.before.before.before in
+    let top = c.before.before.before.before.before.before.before in
     omega (arith, (start (was top)).pre.0.2, (ends (turn top)).0)
 
 wide-requires-3 : tie.Need-wide-requires-3 invariant-loop decreases-loop
@@ -286,14 +224,11 @@ wide-requires-3 c κs = search rules
 add-if2-2 : tie.Need-overflow-add-if2-2 invariant-loop decreases-loop
 add-if2-2 c = search rules
 
-returns-2 : tie.Need-returns-2 invariant-loop decreases-loop
-returns-2 c =
-    let sides = c.before in
-    let here = turn (topped sides) in
-    let broken = broken_if (constraint here) (counts (at-loop here)) (omega (arith, credit (topped sides), debit sides, of-sink sides, of-source sides, c.if2.true)) in
-    let decided = broken_decides _ _ _ (none here) (is_one here) (decides here false broken) in
-    let left : Bool = all_allow (drop (j here) (deadlines (described (at-loop here)))) (period (known (topped sides))) in
-    sym (sym (at-loop here).loop.inv ∙ ap (λ (b : Bool). left && b) decided ∙ and-false left)
+returns : tie.Need-returns invariant-loop decreases-loop
+returns c =
+    let here = turn (topped c.before) in
+    let broken = broken_if (constraint here) (counts (at-loop here)) (omega (arith, credit c.before, debit c.before, of-sink c.before, of-source c.before, c.if2.true)) in
+    sym (sym (at-loop here).loop.inv ∙ broken_decides _ _ _ (none here) (is_one here) (decides here false broken))
 
 add-j : tie.Need-overflow-add-j invariant-loop decreases-loop
 add-j c = search rules
@@ -303,18 +238,14 @@ loop-less c = omega (arith, running (turn (topped c.before)))
 
 loop-again : tie.Need-loop-preserved invariant-loop decreases-loop
 loop-again c =
-    let sides = c.before in
-    let here = turn (topped sides) in
-    let holds = okay_if (constraint here) (counts (at-loop here)) (omega (arith, credit (topped sides), debit sides, of-sink sides, of-source sides, c.if2.false)) in
-    rw (← others-allow-as (topped sides), ← others_decide _ _ _ (none here) (is_one here) (decides here true holds)) (at-loop here).loop.inv
+    let here = turn (topped c.before) in
+    let holds = okay_if (constraint here) (counts (at-loop here)) (omega (arith, credit c.before, debit c.before, of-sink c.before, of-source c.before, c.if2.false)) in
+    sym (others_decide _ _ _ (none here) (is_one here) (decides here true holds)) ∙ (at-loop here).loop.inv
 
-returns-3 : tie.Need-returns-3 invariant-loop decreases-loop
-returns-3 c =
+returns-2 : tie.Need-returns-2 invariant-loop decreases-loop
+returns-2 c =
     let done = c.before.before in
-    let over : f done ≤ done.loop.j = omega (arith, c.if1.false, c.before.counted.ensures.0) in
-    let allow = none_short (interval (order done)) (deadlines (described done)) done.loop.j (omega (arith, deadlines-number done)) in
-    let hold = none_broken (all done) (counts done) done.loop.j (omega (arith, number done)) in
-    sym (sym done.loop.invariant ∙ rw (allow, hold))
+    sym (sym done.loop.invariant ∙ none_broken (all done) (counts done) done.loop.j (omega (arith, number done, c.if1.false, c.before.counted.ensures.0)))
 
 pub constraints-hold-spec : {M : Type 1} → statement M
 constraints-hold-spec =
@@ -328,15 +259,12 @@ constraints-hold-spec =
     array-copy-out-flow
     cast-source
     cast-sink
-    allowed-requires
-    enum-known-most
-    enum_told
-    returns
     top-requires
     shared-slice-read-wide
     shared-slice-read-wide-2
     sub_wide
     wide-requires
+    allowed-requires
     cast-allowed
     shared-slice-read-wide-3
     wide-requires-2
@@ -344,8 +272,8 @@ constraints-hold-spec =
     shared-slice-read-wide-4
     wide-requires-3
     add-if2-2
-    returns-2
+    returns
     add-j
     loop-less
     loop-again
-    returns-3)
+    returns-2)

@@ -9,7 +9,7 @@ use Rattle.model.specs.Plans.{plan, planned}
 use Rattle.model.specs.Sites.{Site}
 use Rattle.search.specs.declared.Figures.{Figures}
 use Rattle.search.specs.declared.Found.{Found}
-use Rattle.search.specs.Posed.{Posed, found_as_lem}
+use Rattle.search.specs.Posed.{Posed, found_as}
 use Rattle.search.specs.PosedLaws.{Reaches, clusters_fit, parents_reach}
 use Rattle.planner.specs.Schedules.{scheduled_as, scheduled_count}
 use Rattle.planner.specs.SequenceLaws.{planned_fresh, sequence_is}
@@ -66,8 +66,8 @@ module _ (c : tie.After-search) where
   counts-here : take (n posing) whole ≡ counts
   counts-here = take_at counts (drop (n posing) zeros) (n posing) (c.search.auto.1.0 ∙ zeros-number posing)
 
-  found_as_lem : (s : Site) → Posed s (figures posing) → {r : Found} → c.search.result ≡ r → plan s ≡ found_as_lem r counts s
-  found_as_lem s posed e = (c.search.ensures s posed).outcome ∙ ap (λ (r : Found). found_as_lem r counts s) e
+  found_as_lem : (s : Site) → Posed s (figures posing) → {r : Found} → c.search.result ≡ r → plan s ≡ found_as r counts s
+  found_as_lem s posed e = (c.search.ensures s posed).outcome ∙ ap (λ (r : Found). found_as r counts s) e
 
 array-borrow-prefix-counts : tie.Need-array-borrow-prefix-counts
 array-borrow-prefix-counts c = n-bounded c
@@ -107,18 +107,18 @@ sequence-requires c κs =
     (record { few = omega (arith, parents, n-bounded posing); counted = counts-number searched ∙ sym parents }, (start posing).pre.0 ∙ sym parents)
 
 returns : tie.Need-returns
-unfolding found_as_lem scheduled_as scheduled_count
+unfolding found_as scheduled_as scheduled_count
 returns c = λ s posed. record { outcome = found_as_lem c.before.before.before s posed c.enum_told.given.1; counted = omega arith }
 
 returns-2 : tie.Need-returns-2
-unfolding found_as_lem scheduled_as scheduled_count
+unfolding found_as scheduled_as scheduled_count
 returns-2 c = λ s posed. record { outcome = found_as_lem c.before.before.before s posed c.enum-told2.given.1; counted = omega arith }
 
 same_length : tie.Need-same-length
 same_length c = search rules
 
 returns-3 : tie.Need-returns-3
-unfolding found_as_lem scheduled_as scheduled_count
+unfolding found_as scheduled_as scheduled_count
 returns-3 c = λ s posed.
     let searched = c.before.before.before.before.before.before.before.before.before.before.before in
     let placed = c.before.before.sequence in

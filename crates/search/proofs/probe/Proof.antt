@@ -1,13 +1,11 @@
--- `search::probe` meets its contract. Where some deadline allows none the order has no solution. Else the list that is made with the flows' limits says the site's constraints behind the bias,
--- and relaxed from the depths it settles as they do. What the trial settles to is copied over all of the counts, and only then.
+-- `search::probe` meets its contract: the list that is made with the flows' limits says the site's constraints behind the bias, and relaxed from the depths it settles as they do. What the
+-- trial settles to is copied over all of the counts, and only then.
 use mathlib.Core.Path.{◌≡◌, sym, ap, ◌∙◌}
-use mathlib.Core.Bool.{Bool, true}
 use mathlib.Core.List.{List, ◌++◌}
 use Prim.Native.Nat.{ℕ, ◌≤◌}
 use native.Mathlib.Omega.{arith}
 use lib.ListN.{length, take, drop}
 use lib.Seq.{length-take-le, length_front, take_at}
-use Rattle.model.specs.Crossings.{all_allow}
 use Rattle.model.specs.Orders.{interval}
 use Rattle.model.specs.Relaxing.{solve}
 use Rattle.model.specs.Sites.{Site}
@@ -16,9 +14,8 @@ use Rattle.relaxing.specs.declared.Settling.{Settling}
 use Rattle.relaxing.specs.Steps.{settled_as}
 use Rattle.search.specs.declared.Figures.{Figures}
 use Rattle.search.specs.Posed.{Posed, counts_after}
-use Rattle.search.specs.PosedLaws.{clusters_fit, flows_fit, parents_reach, depths_reach, sources_reach, sinks_reach, descents_reach, deadlines_reach, descents_shallow, short_unsolved, list_within, list_settles, copied}
+use Rattle.search.specs.PosedLaws.{clusters_fit, flows_fit, parents_reach, depths_reach, sources_reach, sinks_reach, descents_reach, deadlines_reach, descents_shallow, list_within, list_settles, copied}
 use borrow.Author.Rules.{rules}
-use borrow.Author.Tests.{not-true, not-false}
 use Rattle.search.proofs.probe.Statement.{statement}
 use Rattle.search.proofs.probe.Tie as tie
 
@@ -56,22 +53,15 @@ module _ (c : tie.After-limit-flows) where
   limits-are : take (flows lent) limits ≡ limits_of (take (flows lent) (figures lent).descents) (take (flows lent) (figures lent).deadlines) (interval (start lent).args.order.number)
   limits-are =
       take_at _ (drop (flows lent) (figures lent).deadlines) (flows lent) (c.limit-flows.auto.1.1.0 ∙ (deadlines_reach _ _ (posed lent)).number)
-      ∙ c.limit-flows.ensures.1
-
-  -- whether all deadlines allow some number is what was answered
-  allows : {b : Bool} → c.limit-flows.result ≡ b → all_allow (take (flows lent) (figures lent).deadlines) (interval (start lent).args.order.number) ≡ b
-  allows e = sym c.limit-flows.ensures.0 ∙ e
+      ∙ c.limit-flows.ensures
 
 -- once the trial is the depths
 module _ (c : tie.After-trial) where
   abbrev made : tie.After-limit-flows
-  made = c.before.before.before.before.before.before
+  made = c.before.before.before.before.before
 
   abbrev first : tie.After-limits
   first = lent made
-
-  all_allow_lem : all_allow (take (flows first) (figures first).deadlines) (interval (start first).args.order.number) ≡ true
-  all_allow_lem = allows made (not-false _ c.before.before.before.before.if1.false)
 
 -- once it is settled: it is the array's front
 module _ (c : tie.After-settle) where
@@ -97,7 +87,7 @@ module _ (c : tie.After-settle) where
   trial-fits = omega (arith, (depths_reach _ _ (posed begun)).fits, length_front (figures begun).depths trial (clusters begun) c.settle.auto.1.1.1.1.0)
 
   solves-as : (s : Site) → Posed s (figures begun) → {r : Settling} → c.settle.result ≡ r → solve s (start begun).args.order.number ≡ settled_as r trial
-  solves-as s p e = sym (list_settles s _ p _ _ (limits-are (made ready)) (all_allow_lem ready)) ∙ c.settle.ensures.0 ∙ ap (λ (r : Settling). settled_as r trial) e
+  solves-as s p e = sym (list_settles s _ p _ _ (limits-are (made ready))) ∙ c.settle.ensures.0 ∙ ap (λ (r : Settling). settled_as r trial) e
 
 array-share-prefix-descents : tie.Need-array-share-prefix-descents
 array-share-prefix-descents c = (descents_reach _ _ (posed c)).fits
@@ -148,8 +138,7 @@ slice-aggregate-settle-5 c = sym (depths_reach _ _ (posed (first c.before.before
 
 settle-requires : tie.Need-settle-requires
 settle-requires c κs =
-    let ready = c.before.before.before.before.before in
-    let made = made ready in
+    let made = made c.before.before.before.before.before in
     let posed = posed (lent made) in
     let parents = (parents_reach _ _ posed).number in
     let sources = (sources_reach _ _ posed).number in (
@@ -160,7 +149,7 @@ settle-requires c κs =
         (sinks_reach _ _ posed).number ∙ sym sources,
         limits-number made ∙ sym sources,
       ),
-      list_within _ _ posed _ _ (limits-are made) (all_allow_lem ready) _ ((depths_reach _ _ posed).number ∙ posed.clusters_counted),
+      list_within _ _ posed _ _ (limits-are made) _ ((depths_reach _ _ posed).number ∙ posed.clusters_counted),
     )
 
 enum_told : tie.Need-enum-told
@@ -184,28 +173,22 @@ same_length : tie.Need-same-length
 same_length c = search rules
 
 returns : tie.Need-returns
-unfolding counts_after
-returns c = λ s posed.
-    let made = c.before.before in
-    let unsolved = short_unsolved s (figures (lent made)) posed (start (lent made)).args.order.number (allows made (not-true _ c.if1.true)) in
-    record { solution = unsolved; counted = rw unsolved }
-
-returns-2 : tie.Need-returns-2
 unfolding settled_as counts_after
-returns-2 c = λ s posed.
+returns c = λ s posed.
     let settled = c.before.before.before.before.before.before.before.before in
     let counts = (start (begun settled)).args.counts.now in
     let told = c.before.before.before.before.before.enum_told.given.1 in
     let all = (start (begun settled)).pre.1.0 ∙ sym (length-take-le (clusters (begun settled)) (whole settled) (trial-fits settled)) in
     let over : c.before.before.copy.new.1.0 ≡ trial settled = c.before.before.copy.ensures.1 ∙ copied _ counts all ∙ trial-is settled in
     let solution = solves-as settled s posed told in
-    record { solution = rw over solution; counted = rw (over, solution) }
+    record { solution = rw (told, over) solution; counted = rw (over, solution) }
 
-returns-3 : tie.Need-returns-3
+returns-2 : tie.Need-returns-2
 unfolding settled_as counts_after
-returns-3 c = λ s posed.
-    let solution = solves-as c.before.before.before s posed c.enum-told2.given.1 in
-    record { solution = solution; counted = rw solution }
+returns-2 c = λ s posed.
+    let told = c.enum-told2.given.1 in
+    let solution = solves-as c.before.before.before s posed told in
+    record { solution = rw told solution; counted = rw solution }
 
 pub probe-spec : {M : Type 1} → statement M
 probe-spec =
@@ -216,7 +199,6 @@ probe-spec =
     array-borrow-prefix-limits
     slice-aggregate-limit-flows-2
     limit-flows-requires
-    returns
     array-share-prefix-parents
     slice-aggregate-settle
     array-share-prefix-sources
@@ -234,5 +216,5 @@ probe-spec =
     copy-requires
     enum-told-2
     same_length
-    returns-2
-    returns-3)
+    returns
+    returns-2)

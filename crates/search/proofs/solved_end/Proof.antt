@@ -9,6 +9,7 @@ use native.Mathlib.Omega.{arith}
 use lib.ListN.{length}
 use Rattle.model.specs.Relaxing.{solve}
 use Rattle.model.specs.Sites.{Site}
+use Rattle.relaxing.specs.Steps.{settled_as}
 use Rattle.search.specs.Deciding.{order_solved, order_unsolved}
 use Rattle.search.specs.Posed.{Posed, counts_after, Parted}
 use borrow.Author.Rules.{rules}
@@ -29,10 +30,10 @@ module _ (c : tie.After-row-known2 invariant-loop decreases-loop) where
   was = c.before.before.before.before.before.before.before.before.before
 
   abbrev from : ℕ
-  from = c.before.before.if1.from
+  from = c.before.before.match.from
 
   abbrev below : ℕ
-  below = c.before.before.if1.below
+  below = c.before.before.match.below
 
   stepped : (0 < was.loop.step) × (was.loop.from + was.loop.step ≤ was.loop.below)
   stepped = was.loop.inv.3 c.before.before.before.before.before.before.before.before.loop-test.true
@@ -40,9 +41,9 @@ module _ (c : tie.After-row-known2 invariant-loop decreases-loop) where
   between : (was.loop.from ≤ from) × (from ≤ below) × (below ≤ was.loop.below) × (below - from < was.loop.below - was.loop.from)
   between =
       ⊎_elim
-      (λ w. (omega (arith, w.1, w.2, stepped), omega (arith, w.1, w.2, stepped), omega (arith, w.1, w.2, stepped), omega (arith, w.1, w.2, stepped)))
-      (λ w. (omega (arith, w.1, w.2, stepped), omega (arith, w.1, w.2, stepped), omega (arith, w.1, w.2, stepped), omega (arith, w.1, w.2, stepped)))
-      c.before.before.if1.branch
+      (λ w. (omega (arith, w.2, w.3, stepped), omega (arith, w.2, w.3, stepped), omega (arith, w.2, w.3, stepped), omega (arith, w.2, w.3, stepped)))
+      (λ w. (omega (arith, w.2, w.3, stepped), omega (arith, w.2, w.3, stepped), omega (arith, w.2, w.3, stepped), omega (arith, w.2, w.3, stepped)))
+      c.before.before.match.branch
 
 -- where an order has no solution, the counts stay
 unchanged : {r : Option (List ℕ)} {before after : List ℕ} → r ≡ none → after ≡ counts_after r before → after ≡ before
@@ -71,8 +72,14 @@ probe-requires c κs =
     let start = at-loop.before.before in
     (omega (arith, c.before.new.ensures, at-loop.loop.invariant.3 c.before.before.loop-test.true), (at-loop.loop.invariant.4 ∙ start.requires.1.0, start.requires.1.1))
 
+enum_told : tie.Need-enum-told invariant-loop decreases-loop
+enum_told c = search rules
+
 add-from : tie.Need-overflow-add-from invariant-loop decreases-loop
 add-from c = search rules
+
+enum-told-2 : tie.Need-enum-told-2 invariant-loop decreases-loop
+enum-told-2 c = search rules
 
 sub-step : tie.Need-overflow-sub-step invariant-loop decreases-loop
 sub-step c = (between c).1
@@ -84,6 +91,7 @@ loop-less : tie.Need-loop-smaller invariant-loop decreases-loop
 loop-less c = (between c).3
 
 loop-again : tie.Need-loop-preserved invariant-loop decreases-loop
+unfolding settled_as
 loop-again c = (
   omega (arith, between c),
   (between c).1,
@@ -95,11 +103,11 @@ loop-again c = (
       let probed = c.before.before.before.before.before.probe.ensures s posed in
       let so_far = (was c).loop.invariant.5 s posed in
       ⊎_elim
-      (λ w. rw (w.1, w.2) (order_solved s posed.sound _ _ _ _ _ _ so_far _ (omega (arith, (was c).loop.invariant.0, stepped c)) _ (number ∙ (rw w.0.taken at probed.solution))))
+      (λ w. rw (w.2, w.3) (order_solved s posed.sound _ _ _ _ _ _ so_far _ (omega (arith, (was c).loop.invariant.0, stepped c)) _ (number ∙ (rw w.1.given.1 at probed.solution))))
       (λ w.
-      let unsolved = rw w.0.left at probed.solution in
-      rw (w.1, w.2, unchanged unsolved probed.counted) (order_unsolved s posed.sound _ _ _ _ _ _ so_far _ (number ∙ unsolved)))
-      c.before.before.if1.branch,
+      let unsolved = rw w.1.given.1 at probed.solution in
+      rw (w.2, w.3, unchanged unsolved probed.counted) (order_unsolved s posed.sound _ _ _ _ _ _ so_far _ (number ∙ unsolved)))
+      c.before.before.match.branch,
 )
 
 same_length : tie.Need-same-length invariant-loop decreases-loop
@@ -119,7 +127,9 @@ solved-end-spec =
     sub_order
     new-requires
     probe-requires
+    enum_told
     add-from
+    enum-told-2
     sub-step
     add_step
     loop-less
