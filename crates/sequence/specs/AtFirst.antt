@@ -1,7 +1,7 @@
 -- How much holds each cluster back before any is placed, counted in one pass over the clusters, each with its parent.
 use Rattle.std.specs.Prelude.{◌≡◌, refl, ◌&&◌, List, [], ℕ, ◌+◌, ◌≤◌, ◌<◌, ltb, eqb, length, set, replicate}
 use Rattle.std.proofs.Common.{sym, ap, ◌∙◌, arith, length-set, get_or-set_same, get_or-set_other}
-use Rattle.std.proofs.Math.Bool.{and_true, and-false}
+use Rattle.std.proofs.Math.Bool.{and-true, and-false}
 use Rattle.std.proofs.Math.Logic.{inl, inr}
 use Rattle.std.proofs.lemmas.List.{get_or-replicate}
 use borrow.Author.Tests.{ltb-true, ltb-false, lt-ltb, le-ltb, le-leb, lt-leb, eqb-true, eqb-false, eq-eqb, ne_eqb}
@@ -59,8 +59,8 @@ module _ (size : ℕ) (parent N : ℕ → ℕ) where
             rw (lt-ltb 0 k h, lt-ltb p size l, eq-eqb p p refl)
             (elim (passes_or_fails (ltb (N p) (N k))) [
               | inl grows ↦ let few = ltb-true (N p) (N k) grows in rw (grows, later_of) (elim (passes_or_fails (eqb p c)) [
-                | inl e ↦ rw (e, ← eqb-true p c e, lt-leb (N k) (N p) few) (simp and_true (omega arith))
-                | inr e ↦ rw e (simp and_true (omega arith))
+                | inl e ↦ rw (e, ← eqb-true p c e, lt-leb (N k) (N p) few) (simp and-true (omega arith))
+                | inr e ↦ rw e (simp and-true (omega arith))
               ])
               | inr stays ↦ let many = ltb-false (N p) (N k) stays in rw (stays, later_of) (elim (passes_or_fails (eqb p c)) [
                 | inl e ↦ rw (e, ← eqb-true p c e, le-leb (N k) (N p) many, eq-eqb p p refl) (simp and-false (omega arith))
@@ -81,7 +81,7 @@ module _ (size : ℕ) (parent N : ℕ → ℕ) where
   -- all are counted
   counted_all : (c : ℕ) → c < size → counted size parent N size c ≡ waiting size parent N [] c
   unfolding waiting
-  counted_all c l = rw (lt-ltb c size l) (simp and_true)
+  counted_all c l = rw (lt-ltb c size l) (simp and-true)
 
   -- ## The entries
 

@@ -1,7 +1,7 @@
 -- Sets of clusters as the bits of a number below 2 ^ 64: the lowest of a set, a cluster that joins it and one that leaves it. A bit is set by a sum and taken off by a difference.
 use Rattle.std.specs.Prelude.{◌≡◌, refl, Bool, true, false, ◌&&◌, ℕ, zero, suc, ◌+◌, ◌-◌, ◌*◌, ◌/◌, ◌%◌, ◌^◌, ◌≤◌, ◌<◌, eqb}
 use Rattle.std.proofs.Common.{◌∙◌, pow-suc, arith, lit<, pow_pos, shl_exact}
-use Rattle.std.proofs.Math.Bool.{and_true, and-false}
+use Rattle.std.proofs.Math.Bool.{and-true, and-false}
 use Rattle.std.specs.Int.Count.{count_trailing_zeros, under}
 use Rattle.std.proofs.Math.Dec.{eqb-zero-suc, eqb-suc-zero, eqb-suc-suc}
 use mir.Val.{bool_byte}
@@ -120,7 +120,7 @@ joined_fits c n false h l e = omega arith
 pub joins : (c n : ℕ) (comes : Bool) → bit_at n c ≡ 0 → Joined n c comes (n + bit comes * 2 ^ c)
 joins c n true e j =
     let one : n + 1 * 2 ^ c ≡ n + 2 ^ c = omega arith in
-    rw (one, and_true (eqb j c)) (with_bit c n e j)
+    rw (one, and-true (eqb j c)) (with_bit c n e j)
 joins c n false e j =
     let none : n + 0 * 2 ^ c ≡ n = omega arith in
     rw (none, and-false (eqb j c)) (omega arith)

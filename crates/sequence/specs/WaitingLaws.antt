@@ -1,6 +1,6 @@
 -- Laws of what a cluster waits for: it is ready where it waits for nothing, and placing one lowers what the others wait for.
 use Rattle.std.specs.Prelude.{◌≡◌, refl, Bool, false, ◌&&◌, ◌||◌, List, ◌∷◌, ℕ, ◌+◌, ◌<◌, ltb, eqb}
-use Rattle.std.proofs.Math.Bool.{true, not, and_true, and-false, or-true}
+use Rattle.std.proofs.Math.Bool.{true, not, and-true, and-false, or-true}
 use Rattle.std.proofs.lemmas.Bool.{false≢true}
 use Rattle.std.proofs.Math.Logic.{inl, inr}
 use native.Mathlib.Omega.{arith}
@@ -73,12 +73,12 @@ module _ (size : ℕ) (parent N : ℕ → ℕ) (c : ℕ) where
         as_child : bit (follows_parent size parent N c && not (member (parent c) (x ∷ placed))) + bit (parent_first parent N x c)
             ≡ bit (follows_parent size parent N c && not (member (parent c) placed))
         as_child = elim (passes_or_fails (eqb (parent c) x)) [
-          | inl q ↦ rw (eqb-true (parent c) x q, lt-ltb x size l, e, eq-eqb x x refl) (simp (and_true, and-false) (omega arith))
+          | inl q ↦ rw (eqb-true (parent c) x q, lt-ltb x size l, e, eq-eqb x x refl) (simp (and-true, and-false) (omega arith))
           | inr q ↦ rw q (simp and-false (omega arith))
         ]
 
         waited : bit (child_first parent N x c && not (member x placed)) ≡ bit (child_first parent N x c)
-        waited = rw (e, and_true (child_first parent N x c))
+        waited = rw (e, and-true (child_first parent N x c))
 
         waits : bit (child_first parent N x c && not (member x (x ∷ placed))) ≡ 0
         waits = rw (eq-eqb x x refl, and-false (child_first parent N x c))
