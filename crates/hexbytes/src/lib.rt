@@ -1,6 +1,8 @@
 // A line decoded once, from digits into bytes (docs/FORMATS.md, "Site text"), in blocks of sixteen
 // or thirty-two characters: no character ends a block early and none is looked up, so that a block
 // is worked on as a whole. What a line is, is then read off the bytes.
+#![tactic(auto)]
+
 ghost use Rattle.std.specs.Prelude.{◌≡◌, true, false, ◌+◌, ◌*◌, ◌/◌, ◌%◌, ◌≤◌, ◌<◌, length, get_or, replicate};
 ghost use Rattle.hexline.specs.Digits.{is_digit, all_digits, byte_at};
 ghost use Rattle.hexline.specs.Lines.{malformed};
