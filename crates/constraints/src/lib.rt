@@ -1,5 +1,7 @@
 // The constraints on N, each at its place of a list, and the limits of the flows that they are made
 // with (docs/FORMATS.md, "The plan that is returned").
+#![tactic(auto)]
+
 ghost use Rattle.std.specs.Prelude.{◌≡◌, ◌+◌, ◌-◌, ◌*◌, ◌/◌, ◌≤◌, ◌<◌, length, get_or};
 ghost use Rattle.model.specs.Orders.{largest, interval};
 ghost use Rattle.constraints.specs.Entries.{blank, site_entries, limits_of, Shallow};
