@@ -1,5 +1,7 @@
 // Writing lines of digits into a lent room (docs/FORMATS.md, "Site text"): digits two a byte,
 // numbers with the high byte first, and one LF behind each line.
+#![tactic(auto)]
+
 ghost use Rattle.std.specs.Prelude.{◌≡◌, cond, [], ◌∷◌, ◌++◌, ◌+◌, ◌*◌, ◌≤◌, ltb, length};
 ghost use Rattle.hexline.specs.Digits.{hex_of, hexes, number_bytes, field_bytes, line_of};
 ghost use Rattle.hexroom.specs.Room.{put};
