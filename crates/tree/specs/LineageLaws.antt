@@ -1,5 +1,5 @@
 -- Laws of lineages: a cluster is the highest of its own, and what two clusters share is the lineage of their top.
-use Rattle.std.specs.Prelude.{◌≡◌, List, ℕ, zero, suc, ◌+◌, ◌-◌, ◌/◌, ◌%◌, ◌^◌, ◌≤◌, ◌<◌, ltb, eqb, length}
+use Rattle.std.specs.Prelude.{◌≡◌, List, ℕ, zero, suc, ◌+◌, ◌/◌, ◌%◌, ◌^◌, ◌≤◌, ◌<◌, ltb, eqb, length}
 use Rattle.std.proofs.Common.{sym, ap, ◌∙◌, inl, inr, pow-suc, arith, pow_pos, pow_mono, ltb-true, ltb-false, eqb-true}
 use Rattle.std.specs.Int.Bits.{bit_and, and_step, and_zero_r, and_self}
 use Rattle.std.proofs.lemmas.Nat.{and_comm, leading_top}
@@ -7,7 +7,7 @@ use Rattle.std.specs.Int.Count.{count_leading_zeros}
 use Rattle.std.proofs.lemmas.Bool.{eqb-false}
 use Rattle.model.specs.Counting.{at, values}
 use Rattle.model.specs.CountingLaws.{passes_or_fails, values_length, values_at}
-use Rattle.model.specs.Trees.{Tree, total, top}
+use Rattle.model.specs.Trees.{Tree, top}
 use Rattle.model.specs.TreeLaws.{total_root, total_step, top_same, top_first_up, top_second_up}
 use Rattle.tree.specs.Lineage.{lineage, Lineages}
 use Rattle.tree.specs.TopLaws.{top_above}

@@ -1,5 +1,7 @@
 // The tree of clusters as a slice of parents: depths, ancestors, and the top of a path
 // (docs/FORMATS.md, "Allowed and actual crossings").
+#![tactic(auto)]
+
 ghost use Rattle.std.specs.Prelude.{◌≡◌, ℕ, ◌≤◌, ◌<◌, length};
 ghost use Rattle.model.specs.Counting.{at as number_in, values};
 ghost use Rattle.model.specs.Trees.{Tree, depth, top as top_of};
