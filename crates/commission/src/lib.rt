@@ -1,5 +1,7 @@
-// The C functions: a site's text and a lent room in, one number out. They are declared in
-// include/cartheron.h, and take any bytes and any lengths.
+// The functions that crate commission_c exports to C: a site's text and a lent room in, one number out.
+// They take any bytes and any lengths.
+#![tactic(auto)]
+
 ghost use Rattle.std.specs.Prelude.{◌≡◌, ◌+◌, ◌*◌, ◌≤◌, length};
 ghost use Rattle.hexroom.specs.Room.{handed};
 ghost use Rattle.shown.specs.Shown.{line_start, line_at};
@@ -46,7 +48,7 @@ enum Errand {
 }
 
 // Reads the site, and does what is wanted with its records: what was read needs no second check. The
-// four C functions that read go through here, so that one frame serves the reader and what comes after
+// four functions that read go through here, so that one frame serves the reader and what comes after
 // it.
 fn read_and(text: &[u8], plan: &[u8], room: &mut [u8], errand: Errand) -> u32
     ensures { Done errand text.now plan.now room.old result room.new }
@@ -105,8 +107,7 @@ fn read_and(text: &[u8], plan: &[u8], room: &mut [u8], errand: Errand) -> u32
 
 // Plans the site and writes the plan text into the room: the length written, or 65,536 x refusal +
 // line with the room as it was.
-#[unsafe(no_mangle)]
-pub extern "C" fn cartheron_plan(text: &[u8], room: &mut [u8]) -> u32
+pub fn cartheron_plan(text: &[u8], room: &mut [u8]) -> u32
     ensures { (result ≡ plan_number text.now (length room.old)) × (room.new ≡ plan_room text.now room.old) }
 {
     read_and(text, b"", room, Errand::Plan)
@@ -114,8 +115,7 @@ pub extern "C" fn cartheron_plan(text: &[u8], room: &mut [u8]) -> u32
 
 // Reads the site and writes its text into the room: the length written, or 65,536 x refusal + line
 // with the room as it was.
-#[unsafe(no_mangle)]
-pub extern "C" fn cartheron_rewrite(text: &[u8], room: &mut [u8]) -> u32
+pub fn cartheron_rewrite(text: &[u8], room: &mut [u8]) -> u32
     ensures { (result ≡ rewrite_number text.now (length room.old)) × (room.new ≡ rewrite_room text.now room.old) }
 {
     read_and(text, b"", room, Errand::Rewrite)
@@ -123,8 +123,7 @@ pub extern "C" fn cartheron_rewrite(text: &[u8], room: &mut [u8]) -> u32
 
 // The place of the first bad field of a text that reading refuses by 10 to 14, and 255 for every other
 // text.
-#[unsafe(no_mangle)]
-pub extern "C" fn cartheron_place(text: &[u8]) -> u32
+pub fn cartheron_place(text: &[u8]) -> u32
     ensures { result ≡ place_number text.now }
 {
     let mut none = [0u8; 1];
@@ -133,8 +132,7 @@ pub extern "C" fn cartheron_place(text: &[u8]) -> u32
 }
 
 // Whether a plan text, whoever wrote it, is a plan for the site: 0, or 65,536 x refusal + line.
-#[unsafe(no_mangle)]
-pub extern "C" fn cartheron_check(text: &[u8], plan: &[u8]) -> u32
+pub fn cartheron_check(text: &[u8], plan: &[u8]) -> u32
     ensures { result ≡ check_number text.now plan.now }
 {
     let mut none = [0u8; 1];
@@ -143,16 +141,14 @@ pub extern "C" fn cartheron_check(text: &[u8], plan: &[u8]) -> u32
 }
 
 // Where the part begins that is shown for a line.
-#[unsafe(no_mangle)]
-pub extern "C" fn cartheron_line_start(text: &[u8], line: usize) -> usize
+pub fn cartheron_line_start(text: &[u8], line: usize) -> usize
     ensures { result ≡ line_start text.now line }
 {
     shown::line_start(text, line)
 }
 
 // How many bytes the part has that is shown for a line.
-#[unsafe(no_mangle)]
-pub extern "C" fn cartheron_line_length(text: &[u8], line: usize) -> usize
+pub fn cartheron_line_length(text: &[u8], line: usize) -> usize
     ensures { result ≡ length (line_at text.now line) }
 {
     shown::line_at(text, line).len()

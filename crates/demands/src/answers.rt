@@ -3,32 +3,33 @@ ghost use Rattle.std.specs.Prelude.{◌≡◌, ◌≤◌, length};
 ghost use Rattle.hexline.specs.Digits.{field_bytes};
 
 use crate::MOST_BYTES;
-use libc::STDOUT_FILENO;
 use planner::Planned;
 use reader::Reading;
 use site::{Entry, Verdict};
+use std::io;
 use writer::Written;
 
 // Prints numbers of the given widths, eight bytes at most, as a line of hexadecimal.
-fn print_line(widths: &[usize], values: &[u64])
+fn print_line(rt: &impl Print, widths: &[usize], values: &[u64]) -> io::Result<()>
     requires { (length widths.now ≡ length values.now) × (length (field_bytes widths.now values.now) ≤ 8) }
 {
     let mut line = [0u8; 17];
     let n = hexroom::put_line(&mut line, 0, widths, values, b"");
-    io::write_all(STDOUT_FILENO, &line[..n]);
+    rt.write_all(&line[..n])
 }
 
 // Prints a refusal: 8F, its number, its line and its place.
-fn print_refusal(number: u8, line: usize, place: u16) {
+fn print_refusal(rt: &impl Print, number: u8, line: usize, place: u16) -> io::Result<()> {
     print_line(
+        rt,
         &[1, 1, 2, 1],
         &[0x8F, number as u64, line as u64, place as u64],
-    );
+    )
 }
 
 // Prints the reader's answer, 80 and the two counts or the refusal, and gives the line of the
 // refusal: 0 where there is none.
-pub fn print_reading(reading: Reading) -> usize {
+pub fn print_reading(rt: &impl Print, reading: Reading) -> io::Result<usize> {
     let verdict = reading.verdict;
     match verdict {
         Verdict::Refused {
@@ -36,93 +37,104 @@ pub fn print_reading(reading: Reading) -> usize {
             line,
             place,
         } => {
-            print_refusal(number, line, place);
-            line
+            print_refusal(rt, number, line, place)?;
+            Ok(line)
         }
         Verdict::Accepted => {
             let site = reading.site;
             print_line(
+                rt,
                 &[1, 1, 1],
                 &[0x80, site.cluster_count as u64, site.flow_count as u64],
-            );
-            0
+            )?;
+            Ok(0)
         }
     }
 }
 
 // Prints that something was taken: 80.
-fn print_taken() {
-    print_line(&[1], &[0x80]);
+fn print_taken(rt: &impl Print) -> io::Result<()> {
+    print_line(rt, &[1], &[0x80])
 }
 
 // Prints what is said of a plan: 80, or the refusal.
-pub fn print_verdict(verdict: Verdict) {
+pub fn print_verdict(rt: &impl Print, verdict: Verdict) -> io::Result<()> {
     if let Verdict::Refused {
         number,
         line,
         place,
     } = verdict
     {
-        print_refusal(number, line, place);
+        print_refusal(rt, number, line, place)
     } else {
-        print_taken();
+        print_taken(rt)
     }
 }
 
 // Prints what a line is: 80, or the refusal.
-pub fn print_entry(entry: Entry) {
+pub fn print_entry(rt: &impl Print, entry: Entry) -> io::Result<()> {
     if let Entry::Refused {
         number,
         line,
         place,
     } = entry
     {
-        print_refusal(number, line, place);
+        print_refusal(rt, number, line, place)
     } else {
-        print_taken();
+        print_taken(rt)
     }
 }
 
 // Prints a part of a text as it is, and LF.
-pub fn print_part(part: &[u8]) {
-    io::write_all(STDOUT_FILENO, part);
-    io::write_all(STDOUT_FILENO, b"\n");
+pub fn print_part(rt: &impl Print, part: &[u8]) -> io::Result<()> {
+    rt.write_all(part)?;
+    rt.write_all(b"\n")
 }
 
 // Prints the first n bytes of these as they are; none where there are fewer.
-fn print_first(bytes: &[u8], n: usize) {
+fn print_first(rt: &impl Print, bytes: &[u8], n: usize) -> io::Result<()> {
     if n <= bytes.len() {
-        io::write_all(STDOUT_FILENO, &bytes[..n]);
+        rt.write_all(&bytes[..n])
+    } else {
+        Ok(())
     }
 }
 
 // Prints the writer's answer: 80, the length and the text, which begins the space, or the refusal.
-pub fn print_written(written: Written, space: &[u8; MOST_BYTES]) {
+pub fn print_written(
+    rt: &impl Print,
+    written: Written,
+    space: &[u8; MOST_BYTES],
+) -> io::Result<()> {
     match written {
         Written::Refused {
             number,
             line,
             place,
-        } => print_refusal(number, line, place),
+        } => print_refusal(rt, number, line, place),
         Written::Length(n) => {
-            print_line(&[1, 4], &[0x80, n as u64]);
-            print_first(space, n);
+            print_line(rt, &[1, 4], &[0x80, n as u64])?;
+            print_first(rt, space, n)
         }
     }
 }
 
 // Prints the planner's answer: 80, the length, the order and the plan text, which begins the space,
 // or the refusal.
-pub fn print_planned(planned: Planned, space: &[u8; MOST_BYTES]) {
+pub fn print_planned(
+    rt: &impl Print,
+    planned: Planned,
+    space: &[u8; MOST_BYTES],
+) -> io::Result<()> {
     match planned {
         Planned::Refused {
             number,
             line,
             place,
-        } => print_refusal(number, line, place),
+        } => print_refusal(rt, number, line, place),
         Planned::Plan { length, order } => {
-            print_line(&[1, 4, 1], &[0x80, length as u64, order as u64]);
-            print_first(space, length);
+            print_line(rt, &[1, 4, 1], &[0x80, length as u64, order as u64])?;
+            print_first(rt, space, length)
         }
     }
 }
@@ -141,16 +153,16 @@ fn changed(space: &[u8; MOST_BYTES]) -> u16 {
 }
 
 // Prints how many bytes of a space of '.' changed.
-pub fn print_changed(space: &[u8; MOST_BYTES]) {
-    print_line(&[4], &[changed(space) as u64]);
+pub fn print_changed(rt: &impl Print, space: &[u8; MOST_BYTES]) -> io::Result<()> {
+    print_line(rt, &[4], &[changed(space) as u64])
 }
 
 // Prints the number that a client without a room got.
-pub fn print_alone(number: u32) {
-    print_line(&[4], &[number as u64]);
+pub fn print_alone(rt: &impl Print, number: u32) -> io::Result<()> {
+    print_line(rt, &[4], &[number as u64])
 }
 
 // Prints the number that a client got, and how many bytes of a space of '.' changed.
-pub fn print_number(number: u32, space: &[u8; MOST_BYTES]) {
-    print_line(&[4, 4], &[number as u64, changed(space) as u64]);
+pub fn print_number(rt: &impl Print, number: u32, space: &[u8; MOST_BYTES]) -> io::Result<()> {
+    print_line(rt, &[4, 4], &[number as u64, changed(space) as u64])
 }

@@ -1,5 +1,7 @@
 // Runs the clients of all public functions over the cases of standard input, and prints every
 // answer. tests/demands.py says how a case and its answers look.
+#![tactic(auto)]
+
 mod answers;
 mod clients;
 mod patches;
@@ -8,9 +10,10 @@ mod rooms;
 ghost use Rattle.std.specs.Prelude.{◌≡◌, ◌≤◌, length};
 
 use answers::{print_alone, print_entry, print_part, print_reading, print_verdict};
-use libc::STDIN_FILENO;
 use patches::read_patches;
 use reader::Reading;
+use std::io;
+use std::io::{ErrorKind, Read};
 
 // The most cases of a run, so that it ends, and the most bytes of a text and of a room.
 const MOST_CASES: usize = 100000;
@@ -49,94 +52,118 @@ fn space(byte: u8) -> [u8; MOST_BYTES]
     [byte; MOST_BYTES]
 }
 
-// Fills all of `buf` from standard input, and says whether there was enough.
-fn read_exactly(buf: &mut [u8]) -> bool {
-    io::read_full(STDIN_FILENO, buf) == buf.len()
+// Fills all of `buf` from the input, and says whether there was enough.
+fn read_exactly(input: &mut impl Read, buf: &mut [u8]) -> io::Result<bool> {
+    match input.read_exact(buf) {
+        Ok(()) => Ok(true),
+        Err(e) => if e.kind() == ErrorKind::UnexpectedEof {
+            Ok(false)
+        } else {
+            Err(e)
+        },
+    }
 }
 
 // Prints what was read, the parts shown for the line asked for and for the refusal's, and what the
 // line asked for is by itself.
-fn run_lines(text: &[u8], reading: Reading, asked: usize) {
-    let line = print_reading(reading);
+fn run_lines(rt: &impl Print, text: &[u8], reading: Reading, asked: usize) -> io::Result<()> {
+    let line = print_reading(rt, reading)?;
     let part = clients::shown_line(text, asked);
-    print_part(part);
-    print_part(clients::shown_part(text, line));
+    print_part(rt, part)?;
+    print_part(rt, clients::shown_part(text, line))?;
     let site = reading.site;
-    print_entry(clients::read_one_line(part, asked, site.cluster_count, site.flow_count));
+    print_entry(
+        rt,
+        clients::read_one_line(part, asked, site.cluster_count, site.flow_count),
+    )
 }
 
 // Runs the clients that take the text, and then those that take its records, which the patches change
 // first; a plan text is checked for both.
-fn run_clients(head: Head, text: &[u8], plan: &[u8])
+fn run_clients(
+    rt: &impl Print,
+    input: &mut impl Read,
+    head: Head,
+    text: &[u8],
+    plan: &[u8],
+) -> io::Result<()>
     requires { (head.site_room ≤ 12288) × (head.plan_room ≤ 12288) }
 {
     let reading = clients::read_text(text);
-    run_lines(text, reading, head.line);
-    rooms::run_commission(text, head.plan_room);
-    rooms::run_survey(text, head.plan_room);
-    rooms::run_plan_and_check(text, head.plan_room);
-    rooms::run_rewrite(text, head.site_room);
-    print_alone(clients::place(text));
-    print_alone(clients::check(text, plan));
-    let records = read_patches(reading.site, head.patches);
-    rooms::run_plan_records(records, head.plan_room);
-    rooms::run_write_records(records, head.site_room);
-    rooms::run_there_and_back(records, head.site_room);
-    print_verdict(clients::check_records(records, plan));
+    run_lines(rt, text, reading, head.line)?;
+    rooms::run_commission(rt, text, head.plan_room)?;
+    rooms::run_survey(rt, text, head.plan_room)?;
+    rooms::run_plan_and_check(rt, text, head.plan_room)?;
+    rooms::run_rewrite(rt, text, head.site_room)?;
+    print_alone(rt, clients::place(text))?;
+    print_alone(rt, clients::check(text, plan))?;
+    let records = read_patches(input, reading.site, head.patches)?;
+    rooms::run_plan_records(rt, records, head.plan_room)?;
+    rooms::run_write_records(rt, records, head.site_room)?;
+    rooms::run_there_and_back(rt, records, head.site_room)?;
+    print_verdict(rt, clients::check_records(records, plan))
 }
 
-// Fills `part` from standard input, and reads the LF behind it. False where the input ends before.
-fn read_part(part: &mut [u8]) -> bool {
+// Fills `part` from the input, and reads the LF behind it. False where the input ends before.
+fn read_part(input: &mut impl Read, part: &mut [u8]) -> io::Result<bool> {
     let mut lf = [0u8; 1];
-    read_exactly(part) && read_exactly(&mut lf)
+    Ok(read_exactly(input, part)? && read_exactly(input, &mut lf)?)
 }
 
 // Reads the text and the plan text that a head announces into the spaces lent, and runs the case. False
 // where the input ends before the patches.
-fn run_case(head: Head, text: &mut [u8], plan: &mut [u8]) -> bool
+fn run_case(
+    rt: &impl Print,
+    input: &mut impl Read,
+    head: Head,
+    text: &mut [u8],
+    plan: &mut [u8],
+) -> io::Result<bool>
     requires { (head.site_room ≤ 12288) × (head.plan_room ≤ 12288) }
 {
-    if !read_part(text) {
-        return false;
+    if !read_part(input, text)? {
+        return Ok(false);
     }
-    if !read_part(plan) {
-        return false;
+    if !read_part(input, plan)? {
+        return Ok(false);
     }
-    run_clients(head, text, plan);
-    true
+    run_clients(rt, input, head, text, plan)?;
+    Ok(true)
 }
 
 // Runs the next case. False where there is none, or it asks for a longer text or room than there is
 // space.
-fn next_case() -> bool {
+fn next_case(rt: &impl Print, input: &mut impl Read) -> io::Result<bool> {
     let mut line = [0u8; 45];
-    if !read_exactly(&mut line) {
-        return false;
+    if !read_exactly(input, &mut line)? {
+        return Ok(false);
     }
     let head = head_of(&line);
     if head.site_room > MOST_BYTES {
-        return false;
+        return Ok(false);
     }
     if head.plan_room > MOST_BYTES {
-        return false;
+        return Ok(false);
     }
     let n = head.text;
     if n > MOST_BYTES {
-        return false;
+        return Ok(false);
     }
     let m = head.plan;
     if m > MOST_BYTES {
-        return false;
+        return Ok(false);
     }
     let mut text = space(0);
     let mut plan = space(0);
-    run_case(head, &mut text[..n], &mut plan[..m])
+    run_case(rt, input, head, &mut text[..n], &mut plan[..m])
 }
 
 // Runs all cases, up to the end of the input.
-fn main() {
+fn main(rt: HostRuntime) -> io::Result<()> {
+    let mut input = rt.stdin();
     let mut left = MOST_CASES;
-    while left > 0 && next_case() {
+    while left > 0 && next_case(&rt, &mut input)? {
         left -= 1;
     }
+    Ok(())
 }

@@ -1,6 +1,8 @@
 // Patches: fields of the records that are set anew, to values that a reader may never give.
 use crate::read_exactly;
 use site::{Cluster, Flow, Site, Tag};
+use std::io;
+use std::io::Read;
 
 // Which field of which record, and for a tag at which place, is set to what. The kinds are the
 // places in FIELDS of tests/site_building.py.
@@ -97,18 +99,17 @@ fn site_patched(site: Site, patch: Patch) -> Site {
     patched
 }
 
-// The records with so many patches from standard input, one after another; with fewer where the
-// input ends.
-pub fn read_patches(site: Site, count: usize) -> Site {
+// The records with so many patches from the input, one after another; with fewer where it ends.
+pub fn read_patches(input: &mut impl Read, site: Site, count: usize) -> io::Result<Site> {
     let mut patched = site;
     let mut left = count;
     while left > 0 {
         let mut line = [0u8; 15];
-        if !read_exactly(&mut line) {
-            return patched;
+        if !read_exactly(input, &mut line)? {
+            return Ok(patched);
         }
         patched = site_patched(patched, patch_of(&line));
         left -= 1;
     }
-    patched
+    Ok(patched)
 }
