@@ -1,5 +1,7 @@
 // Sites (docs/FORMATS.md, "Site text", "Refusal numbers"): the records, their fields and the line
 // reader.
+#![tactic(auto)]
+
 mod fields;
 mod line;
 
