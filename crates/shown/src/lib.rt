@@ -1,4 +1,6 @@
 // The part of a text that is shown for a line (docs/FORMATS.md, "Refusal numbers").
+#![tactic(auto)]
+
 ghost use Rattle.std.specs.Prelude.{◌≡◌};
 ghost use Rattle.shown.specs.Shown.{line_start, Shown};
 
