@@ -1,5 +1,7 @@
 // Tags (docs/FORMATS.md, "Site text", "Refusal numbers", 6): how many bytes of one count, whether two
 // are the same, and the tag of a line, read at full length.
+#![tactic(auto)]
+
 ghost use Rattle.std.specs.Prelude.{◌≡◌, ◌+◌, ◌/◌, min, length};
 ghost use Rattle.hexbytes.specs.Decoded.{Decoded};
 ghost use Rattle.site.specs.Lines.{tag_at};
