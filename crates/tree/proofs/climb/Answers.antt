@@ -76,9 +76,9 @@ loop-c-preserved c =
       simp length-set inv.2,
       simp length-set inv.3,
       one_more _ c.loop-c.depths c.loop-c.c _ (omega arith)
-          (one_deeper c.args.parents.now c.loop-c.depths c.loop-c.lineages c.loop-c.c c.requires.0 c.requires.3 inv.0 c.loop-c-test.true inv.4 inv.5) inv.4,
+          (omega (arith, one_deeper c.args.parents.now c.loop-c.depths c.loop-c.lineages c.loop-c.c c.requires.0 c.requires.3 inv.0 c.loop-c-test.true inv.4 inv.5)) inv.4,
       one_more _ c.loop-c.lineages c.loop-c.c _ (omega arith)
-          (one_longer c.args.parents.now c.loop-c.depths c.loop-c.lineages c.loop-c.c c.requires.0 c.requires.3 inv.0 c.loop-c-test.true inv.4 inv.5) inv.5,
+          (omega (arith, one_longer c.args.parents.now c.loop-c.depths c.loop-c.lineages c.loop-c.c c.requires.0 c.requires.3 inv.0 c.loop-c-test.true inv.4 inv.5)) inv.5,
     )
 
 pub returns : goal.returns
