@@ -5,7 +5,7 @@
 use Rattle.std.specs.Prelude.{◌≡◌, Bool, false, not, ◌&&◌, List, [], ◌∷◌, ◌++◌, ℕ, ◌+◌, ◌-◌, ◌*◌, ◌/◌, ◌<◌, min, length, get_or, take, drop, replicate}
 use Rattle.std.proofs.Common.{sym, ◌∙◌}
 use Rattle.std.specs.Borrow.{Bor}
-use Rattle.hexline.specs.Digits.{is_digit, digit, hex_of, byte_at, number_at, hexes, number_bytes, field_bytes, line_of}
+use Rattle.hexline.specs.Digits.{is_digit as is_digit_of, digit, hex_of, byte_at, number_at, hexes, number_bytes, field_bytes, line_of}
 use Rattle.hexline.specs.Loops.{every, filled}
 use Rattle.hexbytes.specs.Decoded.{Decoded}
 use Rattle.hexline.specs.Lines.{Row, rows, line_length, malformed}
@@ -35,7 +35,7 @@ use Rattle.site.specs.Records.{same_tag, wrong_parent}
 use Rattle.site.specs.Table.{due, entry_of}
 use Rattle.reader.specs.Reading.{read_text}
 use Rattle.records.specs.Check.{checked}
-use Rattle.shown.specs.Shown.{line_start, line_at, Shown}
+use Rattle.shown.specs.Shown.{line_start as line_start_of, line_at as line_at_of, Shown}
 use Rattle.writer.specs.Text.{text_of, written, room_after as written_room}
 use Rattle.plantext.specs.PlanText.{site_of, plan_header, cluster_line}
 use Rattle.planner.specs.Answers.{answer, room_after, outcome_answer, outcome_room}
@@ -69,13 +69,13 @@ pub record SameFigures (a b : Figures) : Type 0 where
 
 pub record EqualResults : Type 0 where
   -- the line layer
-  pub is_digit : (b : ℕ) → OneResult (is_digit b)
+  pub is_digit : (b : ℕ) → OneResult (is_digit_of b)
   pub digit_of : (b : ℕ) → OneResult (digit b)
   pub hex_of : (v : ℕ) → OneResult (hex_of v)
   pub is_malformed : (most : ℕ) (r : Row) (r₁ r₂ : Bool) (bytes₁ bytes₂ : List ℕ) → (r₁ ≡ malformed most r) × (r₁ ≡ false → Decoded r.chars bytes₁)
       → (r₂ ≡ malformed most r) × (r₂ ≡ false → Decoded r.chars bytes₂) → (r₁ ≡ r₂) × (r₁ ≡ false → bytes₁ ≡ bytes₂)
   pub byte_of : (line : List ℕ) (k : ℕ) → OneResult (byte_at line k)
-  pub are_digits : (line : List ℕ) (at n : ℕ) → OneResult (every n (λ j. is_digit (get_or line (at + j) 0)))
+  pub are_digits : (line : List ℕ) (at n : ℕ) → OneResult (every n (λ j. is_digit_of (get_or line (at + j) 0)))
   pub byte_at : (line : List ℕ) (k : ℕ) → OneResult (byte_at line k)
   pub number_at : (line : List ℕ) (k width : ℕ) → OneResult (number_at line k width)
   pub line_end : (text : List ℕ) (at : ℕ) → OneResult (at + line_length (drop at text))
@@ -104,7 +104,7 @@ pub record EqualResults : Type 0 where
   pub check : (s : Site) → OneResult (checked s)
   pub same_tag : (a b : Tag) → OneResult (same_tag a b)
   pub tag_of : (line : List ℕ) (len : ℕ) → OneResult (tag_at line 4 len)
-  pub line_start : (text : List ℕ) (k : ℕ) → OneResult (line_start text k)
+  pub line_start : (text : List ℕ) (k : ℕ) → OneResult (line_start_of text k)
   pub line_at : (text part₁ part₂ : Bor (List ℕ)) (k : ℕ) → Shown text part₁ k → Shown text part₂ k → (part₁.ref_ptr ≡ part₂.ref_ptr) × (part₁.now ≡ part₂.now)
   -- the tree, the flows' limits, the constraints, the clusters in order of start, and the search with its figures
   pub climb : (parents : List ℕ) → OneResultInRoom (values (depth (number_in parents)) 0 (length parents)) (values (lineage (number_in parents)) 0 (length parents))
@@ -137,19 +137,19 @@ pub record EqualResults : Type 0 where
   pub cartheron_rewrite : (text room : List ℕ) → OneResultInRoom (rewrite_number text (length room)) (rewrite_room text room)
   pub cartheron_place : (text : List ℕ) → OneResult (place_number text)
   pub cartheron_check : (text plan : List ℕ) → OneResult (check_number text plan)
-  pub cartheron_line_start : (text : List ℕ) (line : ℕ) → OneResult (line_start text line)
-  pub cartheron_line_length : (text : List ℕ) (line : ℕ) → OneResult (length (line_at text line))
+  pub cartheron_line_start : (text : List ℕ) (line : ℕ) → OneResult (line_start_of text line)
+  pub cartheron_line_length : (text : List ℕ) (line : ℕ) → OneResult (length (line_at_of text line))
 
 pub results_are_equal : EqualResults
 results_are_equal = record {
-  is_digit = λ b. equal_results (is_digit b);
+  is_digit = λ b. equal_results (is_digit_of b);
   digit_of = λ b. equal_results (digit b);
   hex_of = λ v. equal_results (hex_of v);
   is_malformed = λ most r r₁ r₂ bytes₁ bytes₂ p q.
       let e = equal_results (malformed most r) r₁ r₂ p.0 q.0 in
       (e, λ f. equal_results (filled (byte_at r.chars) (replicate 68 0) (length r.chars / 2)) bytes₁ bytes₂ (p.1 f).bytes (q.1 (sym e ∙ f)).bytes);
   byte_of = λ line k. equal_results (byte_at line k);
-  are_digits = λ line at n. equal_results (every n (λ j. is_digit (get_or line (at + j) 0)));
+  are_digits = λ line at n. equal_results (every n (λ j. is_digit_of (get_or line (at + j) 0)));
   byte_at = λ line k. equal_results (byte_at line k);
   number_at = λ line k width. equal_results (number_at line k width);
   line_end = λ text at. equal_results (at + line_length (drop at text));
@@ -177,9 +177,9 @@ results_are_equal = record {
   check = λ s. equal_results (checked s);
   same_tag = λ a b. equal_results (same_tag a b);
   tag_of = λ line len. equal_results (tag_at line 4 len);
-  line_start = λ text k. equal_results (line_start text k);
+  line_start = λ text k. equal_results (line_start_of text k);
   line_at = λ text part₁ part₂ k p q.
-      equal_results_in_room (text.ref_ptr.0, text.ref_ptr.1 + line_start text.now k) (line_at text.now k) part₁.ref_ptr part₂.ref_ptr part₁.now part₂.now (p.place, p.bytes) (q.place, q.bytes);
+      equal_results_in_room (text.ref_ptr.0, text.ref_ptr.1 + line_start_of text.now k) (line_at_of text.now k) part₁.ref_ptr part₂.ref_ptr part₁.now part₂.now (p.place, p.bytes) (q.place, q.bytes);
   climb = λ parents. equal_results_in_room (values (depth (number_in parents)) 0 (length parents)) (values (lineage (number_in parents)) 0 (length parents));
   top = λ sets a b r₁ r₂ w p q. equal_results (top_of w.0 a b) r₁ r₂ (p w.0 w.1) (q w.0 w.1);
   limit_flows = λ descents deadlines order. equal_results (limits_of descents deadlines (interval order));
@@ -217,6 +217,6 @@ results_are_equal = record {
   cartheron_rewrite = λ text room. equal_results_in_room (rewrite_number text (length room)) (rewrite_room text room);
   cartheron_place = λ text. equal_results (place_number text);
   cartheron_check = λ text plan. equal_results (check_number text plan);
-  cartheron_line_start = λ text line. equal_results (line_start text line);
-  cartheron_line_length = λ text line. equal_results (length (line_at text line));
+  cartheron_line_start = λ text line. equal_results (line_start_of text line);
+  cartheron_line_length = λ text line. equal_results (length (line_at_of text line));
 }
