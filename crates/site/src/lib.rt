@@ -23,14 +23,14 @@ pub const MOST_DIGITS: usize = 136;
 pub const NO_PLACE: u16 = 255;
 
 // A tag, kept whole: its bytes and how many of them count.
-#[derive(Drop)]
+#[derive(Clone, Copy)]
 pub struct Tag {
     pub bytes: [u8; 64],
     pub len: u8,
 }
 
 // A cluster: the number of its parent, 255 for the root's, its superframe order and its tag.
-#[derive(Drop)]
+#[derive(Clone, Copy)]
 pub struct Cluster {
     pub parent: u8,
     pub order: u8,
@@ -39,7 +39,7 @@ pub struct Cluster {
 
 // A flow between two clusters, with its required period and its deadline in symbols. The clusters'
 // numbers have two bytes each, so that a flow has no gap and all 128 are cleared as one block.
-#[derive(Drop)]
+#[derive(Clone, Copy)]
 pub struct Flow {
     pub source: u16,
     pub sink: u16,
@@ -50,7 +50,7 @@ pub struct Flow {
 // A site: of its clusters and flows, as many count as the two numbers say. A number stands between
 // the arrays and one after them, so that the compiler takes the struct apart and moves each array by
 // itself, in less stack.
-#[derive(Drop)]
+#[derive(Clone, Copy)]
 pub struct Site {
     pub flows: [Flow; 128],
     pub cluster_count: u8,
@@ -60,7 +60,7 @@ pub struct Site {
 
 // What a line is: one of three records, or its refusal. A tag is kept beside, as the byte of the line
 // at which it begins and its length.
-#[derive(Drop)]
+#[derive(Clone, Copy)]
 pub enum Entry {
     Header {
         clusters: u8,
@@ -89,7 +89,7 @@ pub enum Entry {
 // the record at which the field stands that is out of range, NO_PLACE where it names no field. A place
 // has two bytes and not one, so that no other part of an answer is stored as it is: the compiler then
 // keeps both in registers.
-#[derive(Drop)]
+#[derive(Clone, Copy)]
 pub enum Verdict {
     Accepted,
     Refused { number: u8, line: usize, place: u16 },
