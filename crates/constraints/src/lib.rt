@@ -10,7 +10,7 @@ use model::Order;
 
 // N(to) - N(from) is at most a limit, which may be below 0: `credit` is BIAS above it. All three
 // numbers are as wide as the credit, so that an entry has no gap and is taken apart without shifts.
-#[derive(Drop)]
+#[derive(Clone, Copy, Drop)]
 pub struct Constraint {
     pub from: u32,
     pub to: u32,

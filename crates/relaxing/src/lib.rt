@@ -1,5 +1,7 @@
 // The constraints on N as a lent list, and their relaxing (docs/FORMATS.md,
 // "The plan that is returned").
+#![tactic(auto)]
+
 ghost use Rattle.std.specs.Prelude.{◌≡◌, ◌++◌, map, ◌+◌, ◌-◌, ◌*◌, ◌≤◌, ◌<◌, length, drop};
 ghost use Rattle.model.specs.ConstraintLaws.{Within};
 ghost use Rattle.model.specs.Counting.{Each};

@@ -25,7 +25,7 @@ pub loop-flow-init : goal.loop-flow-init
 loop-flow-init c = (search rules, refl, refl, λ k l. refl)
 
 pub overflow_add-limits : goal.overflow_add-limits
-overflow_add-limits c = omega (arith, crossings_few _ _ _ (c.type_inv.limits c.loop-flow.flow) c.allowed.ensures)
+overflow_add-limits c = omega (arith, crossings_few _ _ _ (c.type_inv.limits _) c.allowed.ensures)
 
 pub overflow_cast-limits : goal.overflow_cast-limits
 overflow_cast-limits c = omega (arith, c.requires.1 c.loop-flow.flow)
