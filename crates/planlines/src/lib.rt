@@ -1,5 +1,7 @@
 // The lines of a plan text, whoever wrote it (docs/FORMATS.md, "Plan text", "Checking a plan"): which
 // of them break the layout, and what the others say.
+#![tactic(auto)]
+
 ghost use Rattle.std.specs.Prelude.{◌≡◌, true, ◌&&◌, ℕ, ◌+◌, ◌*◌, ◌≤◌, ◌<◌, length as size, get_or, take};
 ghost use Rattle.hexline.specs.Digits.{is_digit, digit, byte_at, number_at};
 ghost use Rattle.hexline.specs.Loops.{every};
