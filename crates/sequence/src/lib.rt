@@ -4,6 +4,8 @@
 // clusters are placed. A number's 64 bits are a set of clusters: those that nothing holds back, and
 // for each cluster the children that wait for it. So n clusters take a number of steps in proportion
 // to n.
+#![tactic(auto)]
+
 ghost use Rattle.std.specs.Prelude.{◌≡◌, [], ◌+◌, ◌≤◌, ◌<◌, eqb, length, set};
 ghost use Rattle.model.specs.Counting.{at, bit};
 ghost use Rattle.sequence.specs.Holding.{Sized, later_of, child_first, Held, Following, Marked, Within, Lowerable, Lowered, Sequenced};
