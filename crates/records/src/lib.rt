@@ -1,4 +1,6 @@
 // The check of records that a caller hands in (docs/FORMATS.md, "Records handed in").
+#![tactic(auto)]
+
 ghost use Rattle.std.specs.Prelude.{◌≡◌, ◌≤◌};
 ghost use Rattle.site.specs.Fields.{cluster_verdict, tag_verdict};
 ghost use Rattle.records.specs.Check.{clusters_verdict, flows_verdict, checked};
