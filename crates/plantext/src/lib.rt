@@ -1,4 +1,6 @@
 // The lines of the plan text (docs/FORMATS.md, "Plan text"), into a room that the caller lends.
+#![tactic(auto)]
+
 ghost use Rattle.std.specs.Prelude.{◌≡◌, ◌+◌, ◌≤◌, length as size};
 ghost use Rattle.hexline.specs.Digits.{line_of};
 ghost use Rattle.hexroom.specs.Room.{put as put_at};
