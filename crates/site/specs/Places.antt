@@ -200,12 +200,17 @@ module _ (k n f : ℕ) (cs : List Cluster) (r : Row) (m a p : ℕ) where
   plain : (x : ℕ) (t : Bool) → x < 10 → own_number x ≡ true → refused_if x k t ≡ Refused m a p → FieldOrTest
   plain x t small own e = let h = test_refuses x k t m a p e in inr (omega arith, rw h.0 at own, h.1, h.2)
 
+  -- in whatever order the verdicts stand
   field_or_test : line_verdict k n f cs r ≡ Refused m a p → FieldOrTest
   unfolding line_verdict
   field_or_test e =
-      from_each FieldOrTest m a p (line_verdicts k n f r ++ (refused_if 6 k (repeated kind k cs chars) ∷ []))
-      (plain 1 (malformed 136 r) (omega arith) refl, (plain 2 (wrong_kind kind chars) (omega arith) refl, (plain 3 (wrong_length kind chars) (omega arith) refl, (λ q. inl q, (plain 5 (misplaced kind k chars) (omega arith) refl, (plain 6 (repeated kind k cs chars) (omega arith) refl, tt))))))
-      e
+      let by_fields : fields_verdict kind k n chars ≡ Refused m a p → FieldOrTest = λ q. inl q in
+      let by_1 = plain 1 (malformed 136 r) (omega arith) refl in
+      let by_2 = plain 2 (wrong_kind kind chars) (omega arith) refl in
+      let by_3 = plain 3 (wrong_length kind chars) (omega arith) refl in
+      let by_5 = plain 5 (misplaced kind k chars) (omega arith) refl in
+      let by_6 = plain 6 (repeated kind k cs chars) (omega arith) refl in
+      from_each FieldOrTest m a p (line_verdicts k n f r ++ (refused_if 6 k (repeated kind k cs chars) ∷ [])) (search (by_fields, by_1, by_2, by_3, by_5, by_6)) e
 
   fields_name : fields_verdict kind k n chars ≡ Refused m a p → (a ≡ k) × NamesFirstBad (fields_due k n f r) (values_due k n f r) m p
   unfolding fields_verdict header_verdict cluster_verdict flow_verdict

@@ -102,18 +102,19 @@ pub test_accepts : (m k : ℕ) (t : Bool) → refused_if m k t ≡ Accepted → 
 test_accepts m k true e = absurd (let z : ◌≡◌ {A = ℕ} 0 1 = cc in omega arith)
 test_accepts m k false e = refl
 
+-- in whatever order the verdicts stand
 pub line_passed : (k n f : ℕ) (cs : List Cluster) (r : Row) → line_verdict k n f cs r ≡ Accepted → Passed k n f cs r
 unfolding line_verdict
 line_passed k n f cs r e =
     let d : ℕ = due k n f in let l : List ℕ = r.chars in
     let all = all_accept (line_verdicts k n f r ++ (refused_if 6 k (repeated d k cs l) ∷ [])) e in
     record {
-      well = test_accepts 1 k (malformed 136 r) all.0;
-      kind = test_accepts 2 k (wrong_kind d l) all.1.0;
-      long = test_accepts 3 k (wrong_length d l) all.1.1.0;
-      fields = all.1.1.1.0;
-      below = test_accepts 5 k (misplaced d k l) all.1.1.1.1.0;
-      alone = test_accepts 6 k (repeated d k cs l) all.1.1.1.1.1.0;
+      well = test_accepts 1 k (malformed 136 r) (cc);
+      kind = test_accepts 2 k (wrong_kind d l) (cc);
+      long = test_accepts 3 k (wrong_length d l) (cc);
+      fields = cc;
+      below = test_accepts 5 k (misplaced d k l) (cc);
+      alone = test_accepts 6 k (repeated d k cs l) (cc);
     }
 
 pub passed_line : (k n f : ℕ) (cs : List Cluster) (r : Row) → Passed k n f cs r → line_verdict k n f cs r ≡ Accepted
