@@ -1,5 +1,7 @@
 // The search for the order (docs/FORMATS.md, "The plan that is returned"): the largest permitted
 // one at which the portions fit and the constraints have a solution.
+#![tactic(auto)]
+
 ghost use Rattle.std.specs.Prelude.{◌≡◌, ◌≤◌, length};
 ghost use Rattle.model.specs.Orders.{largest};
 ghost use Rattle.model.specs.Sites.{Site};
@@ -11,7 +13,7 @@ use relaxing::Settling;
 // What the search works on, worked out once for a site: how many clusters and flows it has, the
 // shortest required period, the sum of the portions, and one number for each cluster or flow from
 // the front of each array on. A flow's descent is the downward part of its path.
-#[derive(Drop)]
+#[derive(Clone, Copy, Drop)]
 pub struct Figures {
     pub cluster_count: usize,
     pub flow_count: usize,
@@ -102,7 +104,7 @@ fn probe(order: Order, figures: Figures, counts: &mut [u8]) -> Settling
     );
     match settling {
         Settling::Settled => {
-            bytes::copy(&trial[..clusters], counts);
+            counts.copy_from_slice(&trial[..clusters]);
         }
         Settling::NegativeLoop => {}
     }
