@@ -1,5 +1,7 @@
 // The reader (docs/FORMATS.md, "Site text", "Refusal numbers"): any text in, its records by value or
 // its refusal with number, line and place out.
+#![tactic(auto)]
+
 mod prints;
 
 ghost use Rattle.std.specs.Prelude.{◌≡◌};
