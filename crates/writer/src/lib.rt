@@ -1,4 +1,6 @@
 // The site writer: the text of a site's records, into a room that the caller lends.
+#![tactic(auto)]
+
 ghost use Rattle.std.specs.Prelude.{◌≡◌, ◌+◌, ◌*◌, ◌≤◌, length, take};
 ghost use Rattle.hexline.specs.Digits.{line_of};
 ghost use Rattle.hexroom.specs.Listing.{lines_of};
