@@ -7,7 +7,7 @@ use Rattle.std.proofs.Math.Logic.{inl, inr}
 use Rattle.std.proofs.Math.Option.{Option, none, some}
 use Rattle.std.proofs.lemmas.Bool.{lt-leb, eqb-false, not-true}
 use Rattle.model.specs.Counting.{at, bit, member, least_where}
-use Rattle.model.specs.CountingLaws.{passes_or_fails, and_both, Lowest, lowest_is, lowest_found}
+use Rattle.model.specs.CountingLaws.{passes_or_fails, and_both, Lowest, lowest_is}
 use Rattle.model.specs.Sequences.{ready, next}
 use Rattle.sequence.specs.Holding.{parent_first, child_first, holds, waiting, holding, Held, LowestFree, NoneFree, Lowered}
 use Rattle.sequence.specs.WaitingLaws.{none_waited_for, ready_waits_for_none, waiting_falls}
@@ -99,25 +99,20 @@ module _ (size : ℕ) (parent N : ℕ → ℕ) (placed held : List ℕ) (h : Hel
   ]
 
   -- whether c may come next
-  abbrev candidate : ℕ → Bool
+  abbrev pub candidate : ℕ → Bool
   candidate c = not (member c placed) && ready size parent N placed c
 
-  free_is_candidate : (c : ℕ) → c < size → at held c ≡ 0 → candidate c ≡ true
+  pub free_is_candidate : (c : ℕ) → c < size → at held c ≡ 0 → candidate c ≡ true
   unfolding holding
   free_is_candidate c l e = rw (free_is_fresh c l e, none_waited_for size parent N c placed (omega (arith, h.each c l)))
 
-  held_is_no_candidate : (c : ℕ) → c < size → (at held c ≡ 0 → ⊥) → candidate c ≡ false
+  pub held_is_no_candidate : (c : ℕ) → c < size → (at held c ≡ 0 → ⊥) → candidate c ≡ false
   unfolding holding
   held_is_no_candidate c l e = elim (passes_or_fails (candidate c)) [
     | inl t ↦ let b = and_both (not (member c placed)) (ready size parent N placed c) t in
         absurd (e (omega (arith, h.each c l, ready_waits_for_none size parent N c placed b.1, ap bit (not-true (member c placed) b.0))))
     | inr t ↦ t
   ]
-
-  pub free_comes_next : (x : ℕ) → LowestFree size held x → next size parent N placed ≡ some x
-  unfolding next
-  free_comes_next x f =
-      lowest_found candidate size x f.0 (free_is_candidate x f.0 f.1) (λ c l. held_is_no_candidate c (omega (arith, f.0)) (f.2 c l))
 
   pub none_comes_next : NoneFree size held → next size parent N placed ≡ none
   unfolding next

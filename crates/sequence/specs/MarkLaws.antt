@@ -5,11 +5,11 @@ use Rattle.std.proofs.Math.Bool.{and-false}
 use Rattle.std.proofs.lemmas.List.{get_or-replicate}
 use Rattle.std.proofs.lemmas.Bool.{eqb-false}
 use Rattle.model.specs.Counting.{at, bit}
-use Rattle.model.specs.CountingLaws.{passes_or_fails, and_both}
-use Rattle.sequence.specs.Holding.{parent_first, LowestFree, NoneFree, Marked, Following, Within, Lowerable, Lowered}
+use Rattle.model.specs.CountingLaws.{passes_or_fails}
+use Rattle.sequence.specs.Holding.{parent_first, NoneFree, Marked, Following, Within, Lowerable, Lowered}
 use Rattle.sequence.specs.Sets.{bit_at, LowestOf, Joined, Parted, none_set}
 
-bit_true : (b : Bool) → bit b ≡ 1 → b ≡ true
+pub bit_true : (b : Bool) → bit b ≡ 1 → b ≡ true
 bit_true true e = refl
 bit_true false e = absurd (omega arith)
 
@@ -66,12 +66,6 @@ module _ (size : ℕ) (held : List ℕ) (free : ℕ) (few : size ≤ 64) (w : Ma
         | inr e ↦ rw (get_or-set_other held c j (at held c + 1) 0 (eqb-false j c e)) (omega (arith, rw e at (g.each j), w.each j i))
       ];
     }
-
-  pub lowest_free : (x : ℕ) → LowestOf free x → LowestFree size held x
-  lowest_free x f =
-      let both = and_both (ltb x size) (eqb (at held x) 0) (bit_true _ (sym (w.each x f.few) ∙ f.there)) in
-      let there = ltb-true x size both.0 in
-      (there, eqb-true (at held x) 0 both.1, λ c l e. omega (arith, f.below c l, free_marked c (omega arith) e))
 
   pub none_marked : free ≡ 0 → NoneFree size held
   none_marked z c l e = omega (arith, none_set c, rw z at (free_marked c l e))

@@ -1,14 +1,13 @@
 -- The state of the loop that places the clusters: how it begins, that a turn keeps it, and what it says at the end.
-use Rattle.std.specs.Prelude.{◌≡◌, length, take, drop, set}
+use Rattle.std.specs.Prelude.{◌≡◌, length, take, drop}
 use Rattle.std.proofs.Math.Path.{refl}
-use Rattle.std.proofs.Common.{sym, ap, ◌∙◌, add-one, length-set, take-append-drop, take-suc-set, drop-set-lt, length-take-le, drop-drop}
-use mathlib.Core.List.{List, [], ◌∷◌, ◌++◌, reverse, reverse-append, append_assoc, append-nil}
-use Prim.Native.Nat.{ℕ, zero, suc, ◌+◌, ◌-◌, ◌≤◌, ◌<◌}
+use Rattle.std.proofs.Common.{sym, ap, ◌∙◌, take-append-drop, length-take-le}
+use mathlib.Core.List.{List, [], ◌++◌, reverse, append-nil}
+use Prim.Native.Nat.{ℕ, zero, suc, ◌-◌, ◌≤◌}
 use native.Mathlib.Omega.{arith}
 use Rattle.model.specs.Sequences.{next_ones}
-use Rattle.model.specs.SequenceLaws.{next_comes_first}
-use Rattle.sequence.specs.Holding.{Held, LowestFree, NoneFree, in_order, Sequenced}
-use Rattle.sequence.specs.HoldingLaws.{Released, free_comes_next, none_comes_next, released_holds}
+use Rattle.sequence.specs.Holding.{Held, NoneFree, in_order, Sequenced}
+use Rattle.sequence.specs.HoldingLaws.{none_comes_next}
 
 module _ (size : ℕ) (parent N : ℕ → ℕ) (earlier : List ℕ) where
   -- the first k clusters stand in the room, `held` says what holds each cluster back after them, and the others follow
@@ -26,26 +25,6 @@ module _ (size : ℕ) (parent N : ℕ → ℕ) (earlier : List ℕ) where
   module _ (k : ℕ) (room held : List ℕ) (w : Running k room held) where
     abbrev placed : List ℕ
     placed = reverse (take k room)
-
-    pub running_on : (x : ℕ) (later : List ℕ) → k < size → LowestFree size held x → Released size parent N x held later → Running (k + 1) (set room k x) later
-    running_on x later l f r = record {
-      within = omega arith;
-      sized = length-set room k x ∙ w.sized;
-      holds = rw turned (released_holds size parent N placed held w.holds x f later r);
-      ahead = rw (turned, front, append_assoc) (ap (λ l. take k room ++ l) (sym x_follows) ∙ w.ahead);
-      behind = drop-set-lt (k + 1) room k x (omega arith) ∙ sym (drop-drop 1 k room) ∙ ap (drop 1) w.behind ∙ drop-drop 1 k earlier;
-    }
-      where
-        front : take (k + 1) (set room k x) ≡ take k room ++ (x ∷ [])
-        front = rw add-one (take-suc-set room k x (omega (arith, w.sized)))
-
-        turned : reverse (take (k + 1) (set room k x)) ≡ x ∷ placed
-        turned = ap reverse front ∙ reverse-append (take k room) (x ∷ [])
-
-        x_follows : next_ones size parent N (size - k) placed ≡ x ∷ next_ones size parent N (size - (k + 1)) (x ∷ placed)
-        x_follows =
-            ap (λ j. next_ones size parent N j placed) (omega arith)
-            ∙ next_comes_first size parent N (size - (k + 1)) placed (free_comes_next size parent N placed held w.holds x f)
 
     none_left : next_ones size parent N (size - k) placed ≡ [] → Sequenced size parent N earlier room k
     none_left e = let all : take k room ≡ in_order size parent N = sym (append-nil (take k room)) ∙ ap (λ l. take k room ++ l) (sym e) ∙ w.ahead in

@@ -39,6 +39,7 @@ fn parted(mask: u64, c: usize) -> u64
 
 // The one of c and its parent p that comes after the other: c where the count grows, and p where it
 // stays.
+#[tactic(auto, unfolding(crate::specs::Holding::later_of))]
 fn later_of(counts: &[u8], p: usize, c: usize) -> usize
     requires { (p < length counts.now) × (c < length counts.now) }
     ensures { result ≡ later_of (at counts.now) p c }

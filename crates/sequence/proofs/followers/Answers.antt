@@ -14,7 +14,7 @@ loop-c-preserved c =
       omega arith,
       λ h. omega arith,
       elim c.if-p-parents.branch [
-        | then-p-parents w ↦ rw w.sets-is (child_follows _ _ _ _ turn.sets turn.invariant.2 _ _ turn.invariant.0 (omega arith) (omega arith) parent w.joined.ensures)
+        | then-p-parents w ↦ rw w.sets-is (child_follows _ _ _ _ turn.sets turn.invariant.2 _ _ turn.invariant.0 (omega arith) (omega arith) parent (λ j. omega (arith, w.joined.ensures j)))
         | else-p-parents w ↦ rw w.sets-is (stranger_follows _ _ _ _ _ turn.invariant.2 (rw parent at w.if-p-parents.false))
       ],
     )

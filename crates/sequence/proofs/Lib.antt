@@ -1,0 +1,2 @@
+-- the lowest of the set is placed
+mod Placing
