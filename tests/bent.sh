@@ -30,7 +30,7 @@ bend() { # WHAT FOLDER/FILE SED-COMMAND
     fi
     objects $(bent_sources "$file")
     compile bent.program "$bent"/*.o
-    if run_static "$built/bent.program" 1 20000 >"$built/bent.out" 2>&1 || ! grep -q '^repeat it:' "$built/bent.out"; then
+    if run_program "$built/bent.program" 1 20000 >"$built/bent.out" 2>&1 || ! grep -q '^repeat it:' "$built/bent.out"; then
         echo "bent: '$1' was not reported"
         exit 1
     fi

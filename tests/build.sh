@@ -1,5 +1,5 @@
 # Sourced in the repository's root by what runs C programs: the static library and its header under
-# target/, proved and built where a source is newer than they are; run_static of bin/kit; and
+# target/, proved and built where a source is newer than they are; run_program of bin/kit; and
 #   compile PROGRAM FILE..    makes $built/PROGRAM of C files, options and the library
 #   compile_plain             makes $plain, the objects of the plain C that the benchmark times, as it times them
 #   $comparison               the files of the comparison, with those of tests/reference and without $plain
@@ -23,7 +23,7 @@ if [ "${1-}" = --native ]; then
         $cc $cflags -Iinclude -Itests -c -o "$object" "$source"
         ar rc "$library" "$object"
     done
-    run_static() { "$@"; }
+    run_program() { "$@"; }
     echo "no library here: tests/reference is in its place"
 else
     . bin/kit

@@ -15,7 +15,7 @@ for file in cli/*.c; do
 done
 
 bin/cartheron --version
-if [ -x "$kit_tools/bin/qemu-x86_64" ]; then run="$kit_tools/bin/qemu-x86_64 target/cartheron"; else run=target/cartheron; fi
+run="$emulator target/cartheron"
 tests/cli_cases.sh target/cli.cases $run
 for site in sites/*.site bench/sites/*.site; do
     status=0
@@ -32,10 +32,10 @@ done
 for test in cli_texts cli_plans; do
     compile $test -Itests tests/$test.c $runs $reference
 done
-if [ "$run" = target/cartheron ]; then every=1; else every=10; fi
-run_static target/cli_texts 1 20000 $every
-run_static target/cli_plans 1 $((20000 / every))
-{ run_static target/cli_texts --json 2 300 && run_static target/cli_plans --json 2 300; } | python3 tests/cli_json.py $run
+if [ -z "$emulator" ]; then every=1; else every=10; fi
+run_program target/cli_texts 1 20000 $every
+run_program target/cli_plans 1 $((20000 / every))
+{ run_program target/cli_texts --json 2 300 && run_program target/cli_plans --json 2 300; } | python3 tests/cli_json.py $run
 
 echo "cli: with the sanitizers"
 if [ "$(uname -m)" = x86_64 ]; then planner=$library; else planner=tests/cli_stand_in.c; fi

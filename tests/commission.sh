@@ -13,7 +13,7 @@ mkdir "$cases"
 run() { # CASE: the client with the text on standard input
     result=$cases/$1
     status=0
-    run_static target/commission >"$result.out" 2>"$result.err" || status=$?
+    run_program target/commission >"$result.out" 2>"$result.err" || status=$?
     {
         echo "exit status $status"
         echo "-- standard output"

@@ -9,4 +9,4 @@ compile_plain
 compile differential -Itests -Ibench $comparison $plain
 # an emulator takes some ten times as long, so there a fifth of the texts has to do
 if [ $# -eq 0 ] && [ -z "$native" ] && [ "$(uname -m)" != x86_64 ]; then set -- 1 40000; fi
-run_static "$built/differential" "$@"
+run_program "$built/differential" "$@"

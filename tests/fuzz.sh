@@ -25,4 +25,4 @@ for number, name in enumerate(sys.argv[2:]):
         for cut in range(len(both)):
             (cuts / f"{cut}").write_bytes(both[:cut])
 END
-run_static "$built/fuzz" sites/*.site bench/sites/*.site "$cuts"/*
+run_program "$built/fuzz" sites/*.site bench/sites/*.site "$cuts"/*

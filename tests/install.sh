@@ -34,10 +34,10 @@ client() { # ROOT PREFIX: builds the examples with what is installed there, and 
     for name in planning checking; do
         $cc $cflags -static -o "$work/$name" "$work/$name.c" $(cat "$work/flags")
     done
-    run_static "$work/planning" <sites/pump-hall.site >"$work/plan" || fail "the example does not plan"
+    run_program "$work/planning" <sites/pump-hall.site >"$work/plan" || fail "the example does not plan"
     bin/plan sites/pump-hall.site | cmp - "$work/plan" || fail "the example plans otherwise"
     sed 's/^0200/02ff/' sites/pump-hall.site >"$work/damaged"
-    if run_static "$work/planning" <"$work/damaged" 2>"$work/words"; then fail "a damaged site was planned"; fi
+    if run_program "$work/planning" <"$work/damaged" 2>"$work/words"; then fail "a damaged site was planned"; fi
     grep -q '^line 3: refused (1): 02ff' "$work/words" || fail "the example said: $(cat "$work/words")"
     says 0 "a plan for the site" sites/pump-hall.site "$work/plan"
     says 0 "a plan for the site" sites/pump-hall.site sites/pump-hall-vendor.plan
@@ -47,13 +47,13 @@ client() { # ROOT PREFIX: builds the examples with what is installed there, and 
 }
 says() { # STATUS WORDS SITE PLAN: what the example that checks says of two files
     local status=0
-    run_static "$work/checking" "$3" "$4" >"$work/said" || status=$?
+    run_program "$work/checking" "$3" "$4" >"$work/said" || status=$?
     [ "$status $(cat "$work/said")" = "$1 $2" ] || fail "the example said of $4: $(cat "$work/said") ($status)"
 }
 command_answers() { # FILE
-    run_static "$1" --version >/dev/null || fail "the installed command has no version"
-    run_static "$1" plan sites/pump-hall.site | cmp - "$work/plan" || fail "the installed command plans otherwise"
-    run_static "$1" check sites/pump-hall.site "$work/plan" >/dev/null || fail "the installed command does not check"
+    run_program "$1" --version >/dev/null || fail "the installed command has no version"
+    run_program "$1" plan sites/pump-hall.site | cmp - "$work/plan" || fail "the installed command plans otherwise"
+    run_program "$1" check sites/pump-hall.site "$work/plan" >/dev/null || fail "the installed command does not check"
 }
 completes() { # EXPECTED WORD..: what the completion offers for the last word
     local expected=$1
