@@ -6,7 +6,7 @@ use Rattle.std.proofs.Math.ListN.{length-map, get_or-map}
 use Rattle.std.proofs.Math.Seq.{length-take-le}
 use borrow.Author.Tests.{leb-true, leb-false, le-leb, ne_eqb}
 use Rattle.model.specs.Constraints.{descent}
-use Rattle.model.specs.Counting.{Each, at, sum_below}
+use Rattle.model.specs.Counting.{Each, sum_below}
 use Rattle.model.specs.CountingLaws.{passes_or_fails, each_map, sum_same}
 use Rattle.model.specs.Orders.{largest, interval, is_order, within_all, permitted, portion, shortest}
 use Rattle.model.specs.OrderLaws.{symbols_bounded, shortest_decides}

@@ -1,4 +1,6 @@
 // The figures of a site's records, on which the search works.
+#![tactic(auto)]
+
 ghost use Rattle.std.specs.Prelude.{◌≡◌};
 ghost use Rattle.plantext.specs.PlanText.{site_of};
 ghost use Rattle.records.specs.Check.{checked};
