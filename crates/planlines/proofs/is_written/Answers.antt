@@ -15,7 +15,7 @@ pub returns : goal.returns
 returns c =
     let rest = c.args.rest.now in
     let tag = c.args.tag in
-    let all : c.loop-j.j ≡ 2 * tag.len = omega (arith, c.wide-n.ensures.0) in
+    let all : c.loop-j.j ≡ 2 * tag.len = omega arith in
     let compared = rw all at c.loop-j.invariant.1 in
     compared
     ∙ every_same _ _ (2 * tag.len) (λ k l. ap (λ (d : ℕ). eqb (get_or rest (22 + k) 0) (hex_of d)) (c.halves-digits.ensures k (omega (arith, c.requires.0))))
