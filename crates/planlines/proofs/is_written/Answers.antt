@@ -1,5 +1,5 @@
 -- None ends the walk. Two digits are those of a byte's halves, so that all of them are the digits of the tag's bytes.
-use Rattle.std.proofs.Common.{◌≡◌, rules, arith, sym, ap, ◌∙◌, ℕ, ◌+◌, ◌*◌, eqb, get_or}
+use Rattle.std.proofs.Common.{◌≡◌, Bool, ◌&&◌, rules, arith, sym, ap, ◌∙◌, ℕ, ◌+◌, ◌*◌, eqb, get_or}
 use Rattle.hexline.specs.Digits.{hex_of}
 use Rattle.hexline.specs.Loops.{every_none, every_next, every_same}
 use Rattle.planlines.specs.WrittenLaws.{digits_written}
@@ -9,7 +9,9 @@ pub loop-j-init : goal.loop-j-init
 loop-j-init c = (search rules, sym (every_none _))
 
 pub loop-j-preserved : goal.loop-j-preserved
-loop-j-preserved c = (search rules, rw (c.loop-j.invariant.1, c.hex_of-digit.ensures) (every_next _ c.loop-j.j))
+loop-j-preserved c =
+    let here = eqb (get_or c.args.rest.now (22 + c.loop-j.j) 0) c.hex_of-digit.result in
+    (search rules, ap (λ (before : Bool). before && here) c.loop-j.invariant.1 ∙ rw c.hex_of-digit.ensures (every_next _ c.loop-j.j))
 
 pub returns : goal.returns
 returns c =
