@@ -1,2 +1,3 @@
 // Theorems alone, in specs/: ReadOfWrite, WriteOfRead, AcceptedExactly, LongestSite, FirstBytes,
 // Tags and EqualResults.
+#![tactic(auto)]
