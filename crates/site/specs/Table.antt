@@ -79,7 +79,7 @@ answered (Refused m k p) e = RefusedLine m k p
 unfoldable pub entry_of : ℕ → ℕ → ℕ → Row → Entry
 entry_of k n f r = answered (first_of (line_verdicts k n f r)) (record_of (due k n f) r.chars)
 
--- what is left of it for a well_formed line of the kind d that is due
+-- what is left of it for a well-formed line of the kind d that is due
 unfoldable pub fields_of : ℕ → ℕ → ℕ → List ℕ → Entry
 fields_of d k n l = answered (first_of (record_verdicts d k n l)) (record_of d l)
 

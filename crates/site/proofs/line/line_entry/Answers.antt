@@ -1,5 +1,5 @@
 -- The tests stand in the order of their numbers, and each return is the law of the test that led there. What a
--- well_formed line leaves in `bytes` stays.
+-- well-formed line leaves in `bytes` stays.
 use mathlib.Core.Path.{◌≡◌, sym, ◌∙◌}
 use mathlib.Core.Bool.{false, true≢false}
 use native.Mathlib.Omega.{arith}
