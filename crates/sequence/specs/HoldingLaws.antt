@@ -1,4 +1,4 @@
--- Laws of what holds a cluster back: placing one lowers the others' numbers, and the lowest-numbered cluster that nothing holds back comes next.
+-- Laws of what holds a cluster back: placing one lowers the others' numbers, and a cluster that nothing holds back may come next.
 use Rattle.std.specs.Prelude.{◌≡◌, Bool, true, not, ◌&&◌, List, ◌∷◌, ◌⊎◌, ℕ, ◌+◌, ◌-◌, ◌≤◌, ◌<◌, leb, eqb, length, set}
 use Rattle.std.proofs.Math.Path.{refl, ap}
 use Rattle.std.proofs.Common.{sym, ◌∙◌, true≢false, arith, length-set, get_or-set_same, get_or-set_other, leb-true, lt-ltb, le-leb, eqb-true, eq-eqb, ne_eqb}
@@ -88,7 +88,7 @@ released_all size parent N x earlier middle later h v w = record {
   ];
 }
 
--- ## What is free comes next
+-- ## What is free may come next
 
 module _ (size : ℕ) (parent N : ℕ → ℕ) (placed held : List ℕ) (h : Held size parent N placed held) where
   free_is_fresh : (x : ℕ) → x < size → at held x ≡ 0 → member x placed ≡ false

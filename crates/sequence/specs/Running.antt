@@ -1,4 +1,4 @@
--- The state of the loop that places the clusters: how it begins, that a turn keeps it, and what it says at the end.
+-- The state of the loop that places the clusters: how it begins, and what it says at the end. That a turn keeps it stands in proofs/Placing.antt.
 use Rattle.std.specs.Prelude.{◌≡◌, length, take, drop}
 use Rattle.std.proofs.Math.Path.{refl}
 use Rattle.std.proofs.Common.{sym, ap, ◌∙◌, take-append-drop, length-take-le}
