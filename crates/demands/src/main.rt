@@ -67,11 +67,11 @@ fn read_exactly(input: &mut impl Read, buf: &mut [u8]) -> io::Result<bool> {
 // Prints what was read, the parts shown for the line asked for and for the refusal's, and what the
 // line asked for is by itself.
 fn run_lines(rt: &impl Print, text: &[u8], reading: Reading, asked: usize) -> io::Result<()> {
+    let site = reading.site;
     let line = print_reading(rt, reading)?;
     let part = clients::shown_line(text, asked);
     print_part(rt, part)?;
     print_part(rt, clients::shown_part(text, line))?;
-    let site = reading.site;
     print_entry(
         rt,
         clients::read_one_line(part, asked, site.cluster_count, site.flow_count),
@@ -90,6 +90,7 @@ fn run_clients(
     requires { (head.site_room ≤ 12288) × (head.plan_room ≤ 12288) }
 {
     let reading = clients::read_text(text);
+    let site = reading.site;
     run_lines(rt, text, reading, head.line)?;
     rooms::run_commission(rt, text, head.plan_room)?;
     rooms::run_survey(rt, text, head.plan_room)?;
@@ -97,7 +98,7 @@ fn run_clients(
     rooms::run_rewrite(rt, text, head.site_room)?;
     print_alone(rt, clients::place(text))?;
     print_alone(rt, clients::check(text, plan))?;
-    let records = read_patches(input, reading.site, head.patches)?;
+    let records = read_patches(input, site, head.patches)?;
     rooms::run_plan_records(rt, records, head.plan_room)?;
     rooms::run_write_records(rt, records, head.site_room)?;
     rooms::run_there_and_back(rt, records, head.site_room)?;

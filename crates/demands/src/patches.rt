@@ -6,7 +6,7 @@ use std::io::Read;
 
 // Which field of which record, and for a tag at which place, is set to what. The kinds are the
 // places in FIELDS of tests/site_building.py.
-#[derive(Drop)]
+#[derive(Clone, Copy)]
 struct Patch {
     kind: u8,
     index: usize,
