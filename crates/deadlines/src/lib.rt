@@ -1,5 +1,7 @@
 // What the flows of a site ask of a plan: an order that their periods permit, and starts at which none
 // of them is late (docs/FORMATS.md, "Orders and lengths", "Allowed and actual crossings").
+#![tactic(auto)]
+
 ghost use Rattle.std.specs.Prelude.{◌≡◌, not, ◌≢◌, ℕ, ◌≤◌, ◌<◌, length};
 ghost use Rattle.model.specs.Constraints.{flow_constraints};
 ghost use Rattle.model.specs.Counting.{at, values};
