@@ -1,4 +1,6 @@
 // The planner: from a site's records to the plan text in a lent room, or a refusal.
+#![tactic(auto)]
+
 ghost use Rattle.std.specs.Prelude.{◌≡◌, length};
 ghost use Rattle.model.specs.Plans.{plan as plan_of};
 ghost use Rattle.model.specs.Sites.{Site as Described};

@@ -1,0 +1,110 @@
+-- The search finds the order and the counts of every site that the figures describe, and the sequence over them is the plan's.
+use mathlib.Core.Path.{◌≡◌, sym, ap, ◌∙◌}
+use mathlib.Core.List.{List, ◌++◌}
+use Prim.Native.Nat.{ℕ, ◌≤◌}
+use native.Mathlib.Omega.{arith}
+use lib.ListN.{length, take, drop, replicate}
+use lib.Seq.{length-take-le, length_front, take_at}
+use Rattle.model.specs.Plans.{plan, planned}
+use Rattle.model.specs.Sites.{Site}
+use Rattle.search.specs.declared.Figures.{Figures}
+use Rattle.search.specs.declared.Found.{Found}
+use Rattle.search.specs.Posed.{Posed, found_as}
+use Rattle.search.specs.PosedLaws.{Reaches, clusters_fit, parents_reach}
+use Rattle.planner.specs.Schedules.{scheduled_as, scheduled_count}
+use Rattle.planner.specs.SequenceLaws.{planned_fresh, sequence_is}
+use Rattle.planner.proofs.place_clusters.Goals as goal
+use Rattle.planner.proofs.place_clusters.Goals.{After-search-found, Start}
+
+abbrev zeros : List ℕ
+zeros = replicate 64 0
+
+-- the figures, and a site that they describe
+module _ (c : Start) where
+  abbrev figures : Figures
+  figures = c.args.figures
+
+  abbrev n : ℕ
+  n = figures.cluster_count
+
+  abbrev described : Site
+  described = c.requires.1.0
+
+  posed : Posed described figures
+  posed = c.requires.1.1
+
+  n-bounded : n ≤ 64
+  n-bounded = (clusters_fit described figures posed).1
+
+  parents-fit : Reaches n figures.parents
+  parents-fit = parents_reach described figures posed
+
+  zeros-number : length (take n zeros) ≡ n
+  zeros-number = length-take-le n zeros n-bounded
+
+-- once the search is done: the counts are the array's front
+module _ (c : After-search-found) where
+  abbrev posing : Start
+  posing = c.before.before.before.before
+
+  abbrev counts : List ℕ
+  counts = c.search-found.new.counts
+
+  abbrev whole : List ℕ
+  whole = counts ++ drop (n posing) zeros
+
+  counts-fit : n posing ≤ length whole
+  counts-fit = omega (arith, n-bounded posing, length_front zeros counts (n posing) c.search-found.auto.counts)
+
+  counts-number : length (take (n posing) whole) ≡ n posing
+  counts-number = length-take-le (n posing) whole counts-fit
+
+  counts-here : take (n posing) whole ≡ counts
+  counts-here = take_at counts (drop (n posing) zeros) (n posing) (c.search-found.auto.counts ∙ zeros-number posing)
+
+  found_as_lem : (s : Site) → Posed s (figures posing) → {r : Found} → c.search-found.result ≡ r → plan s ≡ found_as r counts s
+  found_as_lem s posed e = (c.search-found.ensures s posed).outcome ∙ ap (λ (r : Found). found_as r counts s) e
+
+pub slice_bounds-counts-end : goal.slice_bounds-counts-end
+slice_bounds-counts-end c = n-bounded (goal.at.slice_bounds-counts-end c).Start
+
+pub slice_bounds-search-end : goal.slice_bounds-search-end
+slice_bounds-search-end c = sym (zeros-number (goal.at.slice_bounds-search-end c).Start)
+
+pub search-found-requires : goal.search-found-requires
+search-found-requires c = (zeros-number (goal.at.search-found-requires c).Start, (described (goal.at.search-found-requires c).Start, posed (goal.at.search-found-requires c).Start))
+
+pub slice_bounds-parents-end : goal.slice_bounds-parents-end
+slice_bounds-parents-end c = (parents-fit (posing (goal.at.slice_bounds-parents-end c).After-search-found)).fits
+
+pub slice_bounds-sequence-end : goal.slice_bounds-sequence-end
+slice_bounds-sequence-end c = sym (parents-fit (posing (goal.at.slice_bounds-sequence-end c).After-search-found)).number
+
+pub slice_bounds-counts-end-in-Order : goal.slice_bounds-counts-end-in-Order
+slice_bounds-counts-end-in-Order c = counts-fit (goal.at.slice_bounds-counts-end-in-Order c).After-search-found
+
+pub slice_bounds-sequence-end-in-Order : goal.slice_bounds-sequence-end-in-Order
+slice_bounds-sequence-end-in-Order c = sym (counts-number (goal.at.slice_bounds-sequence-end-in-Order c).After-search-found)
+
+pub sequence-count-requires : goal.sequence-count-requires
+sequence-count-requires c = let searched = (goal.at.sequence-count-requires c).After-search-found in
+    let posing = posing searched in
+    let parents = (parents-fit posing).number in
+    (record { few = omega (arith, parents, n-bounded posing); counted = counts-number searched ∙ sym parents }, posing.requires.0 ∙ sym parents)
+
+pub returns-in-NoFit : goal.returns-in-NoFit
+unfolding found_as scheduled_as scheduled_count
+returns-in-NoFit c = λ s posed. record { outcome = found_as_lem (goal.at.returns-in-NoFit c).After-search-found s posed c.in-NoFit.is; counted = omega arith }
+
+pub returns-in-NoPlacing : goal.returns-in-NoPlacing
+unfolding found_as scheduled_as scheduled_count
+returns-in-NoPlacing c = λ s posed. record { outcome = found_as_lem (goal.at.returns-in-NoPlacing c).After-search-found s posed c.in-NoPlacing.is; counted = omega arith }
+
+pub returns-in-Order : goal.returns-in-Order
+unfolding found_as scheduled_as scheduled_count
+returns-in-Order c = λ s posed.
+    let searched = (goal.at.returns-in-Order c).After-search-found in
+    let placed = c.sequence-count in
+    let planned-so = found_as_lem searched s posed c.in-Order.is ∙ ap (planned c.in-Order.order) (sym (placed.ensures.first ∙ sequence_is s _ _ _ posed.parents_are (counts-here searched))) in
+    let few = (planned_fresh s _ _ planned-so).1 in
+    record { outcome = planned-so; counted = omega (arith, few, placed.ensures.number, ap length placed.ensures.first, posed.clusters_counted, placed.auto.placed, (posing searched).requires.0) }
