@@ -1,5 +1,7 @@
 // The checker (docs/FORMATS.md, "Checking a plan"): records of a site and a plan text in, whoever wrote
 // it, and out whether the text is a plan for the site.
+#![tactic(auto)]
+
 ghost use Rattle.std.specs.Prelude.{◌≡◌, false, ◌∷◌, ◌≤◌, length, drop, get_or};
 ghost use Rattle.hexline.specs.Lines.{Row, rows};
 ghost use Rattle.model.specs.Counting.{all_below};

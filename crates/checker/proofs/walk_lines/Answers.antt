@@ -1,0 +1,189 @@
+-- The invariant is `Passing`: what was found so far decides together with the rows that are left as all rows do, and the starts of the clusters above are kept. A line that
+-- keeps the layout is taken by the law of its cluster, one of the site's or none; one that breaks it ends the walk. That its tag has digits only is known where the tag is
+-- the cluster's, and asked where it is not.
+use mathlib.Core.Path.{◌≡◌, sym, ap, ◌∙◌}
+use mathlib.Core.Bool.{true, false}
+use mathlib.Core.List.{List, ◌∷◌}
+use Prim.Native.Nat.{ℕ, suc, ◌+◌, ◌-◌, ◌*◌, ◌≤◌, ◌<◌}
+use native.Mathlib.Omega.{arith}
+use lib.ListN.{length, drop, length-drop}
+use lib.Seq.{drop-drop}
+use Rattle.hexline.specs.Digits.{byte_at, number_at}
+use Rattle.hexline.specs.Lines.{Row, rows, line_length}
+use Rattle.hexline.specs.LineLaws.{first_row, rows_first, part_to_end, rows_none}
+use Rattle.site.specs.declared.Site.{Site}
+use Rattle.records.specs.Checked.{Unrefused, checked_unrefused, counts_in, site_cluster_in}
+use Rattle.planlines.specs.declared.PlanLine.TheVariants.{Broken, Cluster as ClusterFields}
+use Rattle.planlines.specs.FrontLaws.{front_breaks, front_fits, front_says, front_not}
+use Rattle.planlines.specs.PlanFront.{front_in, tag_digits}
+use Rattle.planlines.specs.PlanLines.{bad_cluster}
+use Rattle.planlines.specs.SaidLaws.{LineSays}
+use Rattle.checker.specs.Passing.{Passing}
+use Rattle.model.specs.CountingLaws.{and_both}
+use Rattle.checker.specs.PassingLaws.{passing_start, passing_broken, passing_known, passing_unknown, passing_ends}
+use Rattle.checker.proofs.walk_lines.Goals as goal
+use Rattle.checker.proofs.walk_lines.Goals.{After-front_line-read, After-wide-c, then-not-described+else-not-is_tag_whole, else-not-described}
+
+-- a turn of the loop, after the line was read up to its tag
+abbrev pub Turn : Type 0
+Turn = After-front_line-read
+
+module _ (turn : Turn) where
+  abbrev pub site : Site
+  site = turn.args.site
+
+  abbrev pub plan : List ℕ
+  plan = turn.args.plan.now
+
+  abbrev pub at : ℕ
+  at = turn.loop-at.at
+
+  -- the text from the line on, and its first row
+  abbrev pub rest : List ℕ
+  rest = drop at plan
+
+  abbrev pub row : Row
+  row = first_row rest
+
+  pub unrefused : Unrefused site
+  unrefused = checked_unrefused site turn.requires.0
+
+  pub few : site.cluster_count ≤ 64
+  few = (counts_in site unrefused).clusters
+
+  running : at < length plan
+  running = turn.loop-at-test.true
+
+  rest_length : length rest ≡ length plan - at
+  rest_length = length-drop at plan
+
+  read : turn.front_line-read.result ≡ front_in rest
+  read = turn.front_line-read.ensures ∙ ap front_in (part_to_end plan at)
+
+  pub breaks : turn.front_line-read.result ≡ Broken → bad_cluster row ≡ true
+  breaks e = front_breaks rest (sym read ∙ e)
+
+  abbrev Before : Type 0
+  Before =
+      let loop = turn.loop-at in
+      Passing site turn.args.interval
+      (rows (drop turn.args.behind plan)) (row ∷ rows (drop (suc (line_length rest)) rest))
+      loop.right loop.apart loop.last loop.until loop.seen loop.starts
+
+  pub passing : Before
+  passing = rw (rows_first rest (omega (arith, rest_length, running))) at turn.loop-at.invariant
+
+  -- the line up to its tag keeps the layout
+  module _ {number start len tag : ℕ} (e : turn.front_line-read.result ≡ ClusterFields number start len tag) where
+    pub fits : (22 + 2 * tag < length rest) × (number ≡ byte_at rest 1) × (start ≡ number_at rest 2 4) × (len ≡ number_at rest 6 4) × (tag ≡ byte_at rest 10)
+    fits = front_fits rest number start len tag (sym read ∙ e)
+
+    pub inside : at + 23 + 2 * tag ≤ length plan
+    inside = omega (arith, fits.0, rest_length, running)
+
+    pub onward : length plan - (at + 23 + 2 * tag) < length plan - at
+    onward = omega (arith, running)
+
+    pub not_whole : tag_digits rest tag ≡ false → bad_cluster row ≡ true
+    not_whole other = front_not rest number start len tag (sym read ∙ e) other
+
+    -- and so does its tag: what the line says, where the next one begins, how long it is, and that of its tag
+    pub taken : tag_digits rest tag ≡ true
+        → LineSays row number start len tag × (drop (suc (line_length rest)) rest ≡ drop (at + 23 + 2 * tag) plan) × (line_length rest ≡ 22 + 2 * tag) × (tag_digits rest tag ≡ true)
+    taken tagged =
+        let line = front_says rest number start len tag (sym read ∙ e) tagged in
+        let far : at + suc (line_length rest) ≡ at + 23 + 2 * tag = omega (arith, line.1) in
+        (line.0, drop-drop (suc (line_length rest)) at plan ∙ ap (λ (k : ℕ). drop k plan) far, line.1, tagged)
+
+-- the line's cluster is one of the site's, and so one of 64
+known : (c : After-wide-c) → (c.wide-c.result < c.args.site.cluster_count) × (c.wide-c.result < 64)
+known c =
+    let below : c.wide-c.result < c.args.site.cluster_count = omega (arith, c.if-number-site.true, c.wide-c.ensures.0) in
+    (below, omega (arith, (counts_in c.args.site (checked_unrefused c.args.site c.requires.0)).clusters))
+
+pub loop-at-init : goal.loop-at-init
+loop-at-init c = passing_start c.args.site c.args.interval _ c.args.starts.now c.requires.1 (counts_in c.args.site (checked_unrefused c.args.site c.requires.0)).clusters
+
+pub returns-in-Broken : goal.returns-in-Broken
+returns-in-Broken c = let turn = (goal.at.returns-in-Broken c).After-front_line-read in
+    passing_broken _ _ _ (row turn) _ _ _ _ _ _ _ (passing turn) (breaks turn c.in-Broken.is) _
+
+pub overflow_add-next : goal.overflow_add-next
+overflow_add-next c = omega (arith, inside (goal.at.overflow_add-next c).After-front_line-read c.in-Cluster.is)
+
+pub overflow_add-next-in-Cluster : goal.overflow_add-next-in-Cluster
+overflow_add-next-in-Cluster c = omega (arith, inside (goal.at.overflow_add-next-in-Cluster c).After-front_line-read c.in-Cluster.is, c.wide.ensures.0)
+
+pub bounds-clusters-c : goal.bounds-clusters-c
+bounds-clusters-c c = omega (arith, known (goal.at.bounds-clusters-c c).After-wide-c)
+
+pub describes-described-requires : goal.describes-described-requires
+describes-described-requires c = let turn = (goal.at.describes-described-requires c).After-front_line-read in
+    let here = fits turn c.in-Cluster.is in
+    let within = site_cluster_in (site turn) (unrefused turn) c.wide-c.result (known (goal.at.describes-described-requires c).After-wide-c).0 in
+    rw (part_to_end (plan turn) (at turn)) (record {
+      order_le_largest = (within.order, within.short, λ i l. omega (arith, within.printable i l));
+      len_bound = (omega (arith, here.0), here.3, here.4);
+    })
+
+pub is_tag_whole-requires : goal.is_tag_whole-requires
+is_tag_whole-requires c = let turn = (goal.at.is_tag_whole-requires c).After-front_line-read in
+    rw (part_to_end (plan turn) (at turn)) (omega (arith, (fits turn c.in-Cluster.is).0))
+
+pub returns-then-not-is_tag_whole : goal.returns-then-not-is_tag_whole
+returns-then-not-is_tag_whole c = let turn = (goal.at.returns-then-not-is_tag_whole c).After-front_line-read in
+    let line = c.in-Cluster.is in
+    let asked = rw (part_to_end (plan turn) (at turn)) at c.is_tag_whole.ensures in
+    passing_broken _ _ _ (row turn) _ _ _ _ _ _ _ (passing turn) (not_whole turn line (sym asked ∙ c.if-not-is_tag_whole.true)) _
+
+pub bounds-seen-c : goal.bounds-seen-c
+bounds-seen-c c = omega (arith, known (goal.at.bounds-seen-c c).After-wide-c)
+
+pub bounds-seen-c-then-number-site : goal.bounds-seen-c-then-number-site
+bounds-seen-c-then-number-site c = omega (arith, known (goal.at.bounds-seen-c-then-number-site c).After-wide-c)
+
+pub bounds-starts-c : goal.bounds-starts-c
+bounds-starts-c c = omega (arith, known (goal.at.bounds-starts-c c).After-wide-c)
+
+pub is_tag_whole-requires-else-number-site : goal.is_tag_whole-requires-else-number-site
+is_tag_whole-requires-else-number-site c = let turn = (goal.at.is_tag_whole-requires-else-number-site c).After-front_line-read in
+    rw (part_to_end (plan turn) (at turn)) (omega (arith, (fits turn c.in-Cluster.is).0))
+
+pub returns-then-not-is_tag_whole-2 : goal.returns-then-not-is_tag_whole-2
+returns-then-not-is_tag_whole-2 c = let turn = (goal.at.returns-then-not-is_tag_whole-2 c).After-front_line-read in
+    let asked = rw (part_to_end (plan turn) (at turn)) at c.is_tag_whole-else-number-site.ensures in
+    passing_broken _ _ _ (row turn) _ _ _ _ _ _ _ (passing turn) (not_whole turn c.in-Cluster.is (sym asked ∙ c.if-not-is_tag_whole-2.true)) _
+
+pub loop-at-smaller-after-not-described : goal.loop-at-smaller-after-not-described
+loop-at-smaller-after-not-described c = omega (arith, onward (goal.at.loop-at-smaller-after-not-described c).After-front_line-read c.in-Cluster.is, c.wide.ensures.0)
+
+pub loop-at-preserved-after-not-described : goal.loop-at-preserved-after-not-described
+loop-at-preserved-after-not-described c = let turn = (goal.at.loop-at-preserved-after-not-described c).After-front_line-read in
+    let part = part_to_end (plan turn) (at turn) in
+    let number = c.wide-c.ensures.0 in
+    let line = taken turn c.in-Cluster.is (elim c.if-not-described.branch [
+      | then-not-described+else-not-is_tag_whole w ↦ sym (rw part at w.is_tag_whole.ensures) ∙ w.if-not-is_tag_whole.false
+      | else-not-described w ↦ (and_both _ _ (sym (rw part at c.describes-described.ensures) ∙ w.if-not-described.false)).0
+    ]) in
+    let told = rw (part, line.3, ← line.2) at c.describes-described.ensures in
+    rw (number, c.wide.ensures.0, ← line.1)
+    (passing_known _ _ _ (row turn) _ _ _ _ _ _ _ (passing turn) _ _ _ _ line.0 (few turn) (rw number at (known (goal.at.loop-at-preserved-after-not-described c).After-wide-c).0) c.describes-described.result (rw number at told))
+
+pub loop-at-smaller : goal.loop-at-smaller
+loop-at-smaller c = omega (arith, onward (goal.at.loop-at-smaller c).After-front_line-read c.in-Cluster.is, c.wide.ensures.0)
+
+pub loop-at-preserved : goal.loop-at-preserved
+loop-at-preserved c = let turn = (goal.at.loop-at-preserved c).After-front_line-read in
+    let line = c.in-Cluster.is in
+    let asked = rw (part_to_end (plan turn) (at turn)) at c.is_tag_whole-else-number-site.ensures in
+    let taken_line = taken turn line (sym asked ∙ c.if-not-is_tag_whole-2.false) in
+    rw (c.wide.ensures.0, ← taken_line.1)
+    (passing_unknown _ _ _ (row turn) _ _ _ _ _ _ _ (passing turn) _ _ _ _ taken_line.0 (omega (arith, c.if-number-site.false)))
+
+pub all_seen-requires : goal.all_seen-requires
+all_seen-requires c = omega (arith, c.wide-n.ensures.0, (counts_in c.args.site (checked_unrefused c.args.site c.requires.0)).clusters)
+
+pub returns : goal.returns
+returns c = let at-end = c.loop-at in
+    let passed = rw (rows_none c.args.plan.now at-end.at c.loop-at-test.false) at at-end.invariant in
+    rw (c.all_seen.ensures, c.wide-n.ensures.0) (passing_ends _ _ _ _ _ _ _ _ _ passed)
