@@ -14,71 +14,59 @@ use Rattle.search.specs.PosedLaws.{Reaches, clusters_fit, parents_reach}
 use Rattle.planner.specs.Schedules.{scheduled_as, scheduled_count}
 use Rattle.planner.specs.SequenceLaws.{planned_fresh, sequence_is}
 use Rattle.planner.proofs.place_clusters.Goals as goal
-use Rattle.planner.proofs.place_clusters.Goals.{After-search-found, Start}
+use Rattle.planner.proofs.place_clusters.Goals.{After-search-found}
 
 abbrev zeros : List ℕ
 zeros = replicate 64 0
 
--- the figures, and a site that they describe
-module _ (c : Start) where
-  abbrev figures : Figures
-  figures = c.args.figures
-
-  abbrev n : ℕ
-  n = figures.cluster_count
-
-  abbrev described : Site
-  described = c.requires.1.0
-
-  posed : Posed described figures
-  posed = c.requires.1.1
-
-  n-bounded : n ≤ 64
+-- at figures that describe a site
+module _ (figures : Figures) (described : Site) (posed : Posed described figures) where
+  n-bounded : figures.cluster_count ≤ 64
   n-bounded = (clusters_fit described figures posed).1
 
-  parents-fit : Reaches n figures.parents
-  parents-fit = parents_reach described figures posed
-
-  zeros-number : length (take n zeros) ≡ n
-  zeros-number = length-take-le n zeros n-bounded
+  zeros-number : length (take figures.cluster_count zeros) ≡ figures.cluster_count
+  zeros-number = length-take-le figures.cluster_count zeros n-bounded
 
 -- once the search is done: the counts are the array's front
 module _ (c : After-search-found) where
-  abbrev posing : Start
-  posing = c.before.before.before.before
+  abbrev n : ℕ
+  n = c.args.figures.cluster_count
 
   abbrev counts : List ℕ
   counts = c.search-found.new.counts
 
   abbrev whole : List ℕ
-  whole = counts ++ drop (n posing) zeros
+  whole = counts ++ drop n zeros
 
-  counts-fit : n posing ≤ length whole
-  counts-fit = omega (arith, n-bounded posing, length_front zeros counts (n posing) c.search-found.auto.counts)
+  parents-fit : Reaches n c.args.figures.parents
+  parents-fit = parents_reach _ _ c.requires.1.1
 
-  counts-number : length (take (n posing) whole) ≡ n posing
-  counts-number = length-take-le (n posing) whole counts-fit
+  counts-fit : n ≤ length whole
+  counts-fit = omega (arith, n-bounded _ _ c.requires.1.1, length_front zeros counts n c.search-found.auto.counts)
 
-  counts-here : take (n posing) whole ≡ counts
-  counts-here = take_at counts (drop (n posing) zeros) (n posing) (c.search-found.auto.counts ∙ zeros-number posing)
+  counts-number : length (take n whole) ≡ n
+  counts-number = length-take-le n whole counts-fit
 
-  found_as_lem : (s : Site) → Posed s (figures posing) → {r : Found} → c.search-found.result ≡ r → plan s ≡ found_as r counts s
+  counts-here : take n whole ≡ counts
+  counts-here = take_at counts (drop n zeros) n (c.search-found.auto.counts ∙ zeros-number _ _ c.requires.1.1)
+
+  found_as_lem : (s : Site) → Posed s c.args.figures → {r : Found} → c.search-found.result ≡ r → plan s ≡ found_as r counts s
   found_as_lem s posed e = (c.search-found.ensures s posed).outcome ∙ ap (λ (r : Found). found_as r counts s) e
 
 pub slice_bounds-counts-end : goal.slice_bounds-counts-end
-slice_bounds-counts-end c = n-bounded (goal.at.slice_bounds-counts-end c).Start
+slice_bounds-counts-end c = n-bounded _ _ c.requires.1.1
 
 pub slice_bounds-search-end : goal.slice_bounds-search-end
-slice_bounds-search-end c = sym (zeros-number (goal.at.slice_bounds-search-end c).Start)
+slice_bounds-search-end c = sym (zeros-number _ _ c.requires.1.1)
 
 pub search-found-requires : goal.search-found-requires
-search-found-requires c = (zeros-number (goal.at.search-found-requires c).Start, (described (goal.at.search-found-requires c).Start, posed (goal.at.search-found-requires c).Start))
+search-found-requires c = (zeros-number _ _ c.requires.1.1, c.requires.1)
 
 pub slice_bounds-parents-end : goal.slice_bounds-parents-end
-slice_bounds-parents-end c = (parents-fit (posing (goal.at.slice_bounds-parents-end c).After-search-found)).fits
+slice_bounds-parents-end c = (parents-fit (goal.at.slice_bounds-parents-end c).After-search-found).fits
 
 pub slice_bounds-sequence-end : goal.slice_bounds-sequence-end
-slice_bounds-sequence-end c = sym (parents-fit (posing (goal.at.slice_bounds-sequence-end c).After-search-found)).number
+slice_bounds-sequence-end c = sym (parents-fit (goal.at.slice_bounds-sequence-end c).After-search-found).number
 
 pub slice_bounds-counts-end-in-Order : goal.slice_bounds-counts-end-in-Order
 slice_bounds-counts-end-in-Order c = counts-fit (goal.at.slice_bounds-counts-end-in-Order c).After-search-found
@@ -87,10 +75,10 @@ pub slice_bounds-sequence-end-in-Order : goal.slice_bounds-sequence-end-in-Order
 slice_bounds-sequence-end-in-Order c = sym (counts-number (goal.at.slice_bounds-sequence-end-in-Order c).After-search-found)
 
 pub sequence-count-requires : goal.sequence-count-requires
-sequence-count-requires c = let searched = (goal.at.sequence-count-requires c).After-search-found in
-    let posing = posing searched in
-    let parents = (parents-fit posing).number in
-    (record { few = omega (arith, parents, n-bounded posing); counted = counts-number searched ∙ sym parents }, posing.requires.0 ∙ sym parents)
+sequence-count-requires c =
+    let searched = (goal.at.sequence-count-requires c).After-search-found in
+    let parents = (parents-fit searched).number in
+    (record { few = omega (arith, parents, n-bounded _ _ c.requires.1.1); counted = counts-number searched ∙ sym parents }, c.requires.0 ∙ sym parents)
 
 pub returns-in-NoFit : goal.returns-in-NoFit
 unfolding found_as scheduled_as scheduled_count
@@ -107,4 +95,4 @@ returns-in-Order c = λ s posed.
     let placed = c.sequence-count in
     let planned-so = found_as_lem searched s posed c.in-Order.is ∙ ap (planned c.in-Order.order) (sym (placed.ensures.first ∙ sequence_is s _ _ _ posed.parents_are (counts-here searched))) in
     let few = (planned_fresh s _ _ planned-so).1 in
-    record { outcome = planned-so; counted = omega (arith, few, placed.ensures.number, ap length placed.ensures.first, posed.clusters_counted, placed.auto.placed, (posing searched).requires.0) }
+    record { outcome = planned-so; counted = omega (arith, few, placed.ensures.number, ap length placed.ensures.first, posed.clusters_counted, placed.auto.placed, c.requires.0) }
