@@ -33,7 +33,8 @@ fn give_back(text: &[u8], room: &mut [u8]) -> Written
             place: NO_PLACE,
         };
     }
-    let length = bytes::copy(text, room);
+    let length = text.len();
+    room[..length].copy_from_slice(text);
     Written::Length(length)
 }
 
