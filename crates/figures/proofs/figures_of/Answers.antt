@@ -23,7 +23,7 @@ use Rattle.figures.specs.SiteLaws.{flows_whole, counts_bounded, ends_there, desc
 use Rattle.model.specs.Relaxing.{depths as depths_of}
 use borrow.Author.Rules.{rules}
 use Rattle.figures.proofs.figures_of.Goals as goal
-use Rattle.figures.proofs.figures_of.Goals.{After-climb, After-top-top, After-wide-flow_count, At-loop-i, In-loop-i, Start, then-flow-shortest, else-flow-shortest}
+use Rattle.figures.proofs.figures_of.Goals.{After-climb, After-top-top, After-wide-flow_count, At-loop-i, In-loop-i, Start}
 
 abbrev pub zeros : List ℕ
 zeros = replicate 64 0
@@ -236,14 +236,13 @@ bounds-descents-i c = omega (arith, running (turn (goal.at.bounds-descents-i c).
 
 pub loop-i-preserved : goal.loop-i-preserved
 loop-i-preserved c = let here = turn (goal.at.loop-i-preserved c).After-top-top in
-    let inv = (was here).loop-i.invariant in
-    let if1 = c.if-flow-shortest in (
+    let inv = (was here).loop-i.invariant in (
       search rules,
       filled_next _ _ _ _ _ inv.1 refl,
       filled_next _ _ _ _ _ inv.2 refl,
       filled_next _ _ _ _ _ inv.3 refl,
       filled_next _ _ _ _ _ inv.4 (difference (goal.at.loop-i-preserved c).After-top-top),
-      shortest_more (site (first here)).flows (f (first here)) (was here).loop-i.i (was here).loop-i.shortest (running here) (f-whole (first here)) if1.shortest (elim if1.branch [ then-flow-shortest w ↦ omega arith | else-flow-shortest w ↦ omega arith ]) ∙ inv.5,
+      shortest_more (site (first here)).flows (f (first here)) (was here).loop-i.i (was here).loop-i.shortest (running here) (f-whole (first here)) _ (grind arith) ∙ inv.5,
     )
 
 pub returns : goal.returns
