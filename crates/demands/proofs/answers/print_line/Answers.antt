@@ -1,9 +1,7 @@
 -- A line of at most eight bytes has at most seventeen characters, its LF too, and fits the seventeen of the buffer.
 use mathlib.Core.Path.{sym}
 use mathlib.Core.List.{[]}
-use Prim.Native.Nat.{◌≤◌}
 use native.Mathlib.Omega.{arith}
-use lib.ListN.{length}
 use lib.Seq.{length-take-le}
 use Rattle.hexline.specs.Digits.{field_bytes}
 use Rattle.hexroom.specs.Room.{fields_line_length}
