@@ -32,7 +32,7 @@ module _ (size : ℕ) (parent N : ℕ → ℕ) (earlier : List ℕ) where
 
     pub all_placed : size ≤ k → Sequenced size parent N earlier room k
     unfolding next_ones
-    all_placed l = let None-more : size - k ≡ 0 = omega arith in none_left (ap (λ j. next_ones size parent N j placed) None-more)
+    all_placed l = let none_more : size - k ≡ 0 = omega arith in none_left (ap (λ j. next_ones size parent N j placed) none_more)
 
     pub none_free : NoneFree size held → Sequenced size parent N earlier room k
     unfolding next_ones
