@@ -3,9 +3,6 @@ use mathlib.Core.Path.{sym, ◌∙◌}
 use Rattle.checker.specs.Checks.{checked_plan}
 use Rattle.checker.proofs.check_plan.Goals as goal
 
-pub check_accepted-requires : goal.check_accepted-requires
-check_accepted-requires c = sym c.check-verdict.ensures ∙ c.in-Accepted.is
-
 pub returns-in-Refused : goal.returns-in-Refused
 unfolding checked_plan
 returns-in-Refused c = let said = sym c.check-verdict.ensures ∙ c.in-Refused.is in rw said c.in-Refused.is

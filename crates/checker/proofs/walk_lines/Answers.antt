@@ -25,30 +25,27 @@ use Rattle.checker.proofs.walk_lines.Goals as goal
 use Rattle.checker.proofs.walk_lines.Goals.{After-front_line-read, After-wide-c, then-not-described+else-not-is_tag_whole, else-not-described}
 
 -- a turn of the loop, after the line was read up to its tag
-abbrev pub Turn : Type 0
-Turn = After-front_line-read
-
-module _ (turn : Turn) where
-  abbrev pub site : Site
+module _ (turn : After-front_line-read) where
+  abbrev site : Site
   site = turn.args.site
 
-  abbrev pub plan : List ℕ
+  abbrev plan : List ℕ
   plan = turn.args.plan.now
 
-  abbrev pub at : ℕ
+  abbrev at : ℕ
   at = turn.loop-at.at
 
   -- the text from the line on, and its first row
-  abbrev pub rest : List ℕ
+  abbrev rest : List ℕ
   rest = drop at plan
 
-  abbrev pub row : Row
+  abbrev row : Row
   row = first_row rest
 
-  pub unrefused : Unrefused site
+  unrefused : Unrefused site
   unrefused = checked_unrefused site turn.requires.0
 
-  pub few : site.cluster_count ≤ 64
+  few : site.cluster_count ≤ 64
   few = (counts_in site unrefused).clusters
 
   running : at < length plan
@@ -60,7 +57,7 @@ module _ (turn : Turn) where
   read : turn.front_line-read.result ≡ front_in rest
   read = turn.front_line-read.ensures ∙ ap front_in (part_to_end plan at)
 
-  pub breaks : turn.front_line-read.result ≡ Broken → bad_cluster row ≡ true
+  breaks : turn.front_line-read.result ≡ Broken → bad_cluster row ≡ true
   breaks e = front_breaks rest (sym read ∙ e)
 
   abbrev Before : Type 0
@@ -70,25 +67,19 @@ module _ (turn : Turn) where
       (rows (drop turn.args.behind plan)) (row ∷ rows (drop (suc (line_length rest)) rest))
       loop.right loop.apart loop.last loop.until loop.seen loop.starts
 
-  pub passing : Before
+  passing : Before
   passing = rw (rows_first rest (omega (arith, rest_length, running))) at turn.loop-at.invariant
 
   -- the line up to its tag keeps the layout
   module _ {number start len tag : ℕ} (e : turn.front_line-read.result ≡ ClusterFields number start len tag) where
-    pub fits : (22 + 2 * tag < length rest) × (number ≡ byte_at rest 1) × (start ≡ number_at rest 2 4) × (len ≡ number_at rest 6 4) × (tag ≡ byte_at rest 10)
+    fits : (22 + 2 * tag < length rest) × (number ≡ byte_at rest 1) × (start ≡ number_at rest 2 4) × (len ≡ number_at rest 6 4) × (tag ≡ byte_at rest 10)
     fits = front_fits rest number start len tag (sym read ∙ e)
 
-    pub inside : at + 23 + 2 * tag ≤ length plan
-    inside = omega (arith, fits.0, rest_length, running)
-
-    pub onward : length plan - (at + 23 + 2 * tag) < length plan - at
-    onward = omega (arith, running)
-
-    pub not_whole : tag_digits rest tag ≡ false → bad_cluster row ≡ true
+    not_whole : tag_digits rest tag ≡ false → bad_cluster row ≡ true
     not_whole other = front_not rest number start len tag (sym read ∙ e) other
 
     -- and so does its tag: what the line says, where the next one begins, how long it is, and that of its tag
-    pub taken : tag_digits rest tag ≡ true
+    taken : tag_digits rest tag ≡ true
         → LineSays row number start len tag × (drop (suc (line_length rest)) rest ≡ drop (at + 23 + 2 * tag) plan) × (line_length rest ≡ 22 + 2 * tag) × (tag_digits rest tag ≡ true)
     taken tagged =
         let line = front_says rest number start len tag (sym read ∙ e) tagged in
@@ -107,12 +98,6 @@ loop-at-init c = passing_start c.args.site c.args.interval _ c.args.starts.now c
 pub returns-in-Broken : goal.returns-in-Broken
 returns-in-Broken c = let turn = (goal.at.returns-in-Broken c).After-front_line-read in
     passing_broken _ _ _ (row turn) _ _ _ _ _ _ _ (passing turn) (breaks turn c.in-Broken.is) _
-
-pub overflow_add-next : goal.overflow_add-next
-overflow_add-next c = omega (arith, inside (goal.at.overflow_add-next c).After-front_line-read c.in-Cluster.is)
-
-pub overflow_add-next-in-Cluster : goal.overflow_add-next-in-Cluster
-overflow_add-next-in-Cluster c = omega (arith, inside (goal.at.overflow_add-next-in-Cluster c).After-front_line-read c.in-Cluster.is, c.wide.ensures.0)
 
 pub bounds-clusters-c : goal.bounds-clusters-c
 bounds-clusters-c c = omega (arith, known (goal.at.bounds-clusters-c c).After-wide-c)
@@ -154,9 +139,6 @@ returns-then-not-is_tag_whole-2 c = let turn = (goal.at.returns-then-not-is_tag_
     let asked = rw (part_to_end (plan turn) (at turn)) at c.is_tag_whole-else-number-site.ensures in
     passing_broken _ _ _ (row turn) _ _ _ _ _ _ _ (passing turn) (not_whole turn c.in-Cluster.is (sym asked ∙ c.if-not-is_tag_whole-2.true)) _
 
-pub loop-at-smaller-after-not-described : goal.loop-at-smaller-after-not-described
-loop-at-smaller-after-not-described c = omega (arith, onward (goal.at.loop-at-smaller-after-not-described c).After-front_line-read c.in-Cluster.is, c.wide.ensures.0)
-
 pub loop-at-preserved-after-not-described : goal.loop-at-preserved-after-not-described
 loop-at-preserved-after-not-described c = let turn = (goal.at.loop-at-preserved-after-not-described c).After-front_line-read in
     let part = part_to_end (plan turn) (at turn) in
@@ -168,9 +150,6 @@ loop-at-preserved-after-not-described c = let turn = (goal.at.loop-at-preserved-
     let told = rw (part, line.3, ← line.2) at c.describes-described.ensures in
     rw (number, c.wide.ensures.0, ← line.1)
     (passing_known _ _ _ (row turn) _ _ _ _ _ _ _ (passing turn) _ _ _ _ line.0 (few turn) (rw number at (known (goal.at.loop-at-preserved-after-not-described c).After-wide-c).0) c.describes-described.result (rw number at told))
-
-pub loop-at-smaller : goal.loop-at-smaller
-loop-at-smaller c = omega (arith, onward (goal.at.loop-at-smaller c).After-front_line-read c.in-Cluster.is, c.wide.ensures.0)
 
 pub loop-at-preserved : goal.loop-at-preserved
 loop-at-preserved c = let turn = (goal.at.loop-at-preserved c).After-front_line-read in

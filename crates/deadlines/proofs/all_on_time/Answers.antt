@@ -89,9 +89,6 @@ pub loop-k-init : goal.loop-k-init
 unfolding filled
 loop-k-init c = (search rules, refl)
 
-pub offset_bounds-clusters-k : goal.offset_bounds-clusters-k
-offset_bounds-clusters-k c = omega (arith, n_bounded c.args.site c.requires.0 c.wide-n.result c.wide-n.ensures.0)
-
 pub bounds-clusters-k : goal.bounds-clusters-k
 bounds-clusters-k c = omega (arith, n_bounded c.args.site c.requires.0 c.wide-n.result c.wide-n.ensures.0)
 

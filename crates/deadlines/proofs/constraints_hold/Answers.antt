@@ -104,9 +104,6 @@ turns c = omega (arith, c.loop-j-test.true, c.counted.ensures.0)
 top_value : (c : After-top-top) → c.top-top.result ≡ top_of (model.parent (site_of c.args.site)) (get_or c.args.site.flows c.loop-j.j no_flow).source (get_or c.args.site.flows c.loop-j.j no_flow).sink
 top_value c = c.top-top.ensures _ c.requires.depths_value.2
 
-pub offset_bounds-flows-j : goal.offset_bounds-flows-j
-offset_bounds-flows-j c = omega (arith, in_array c.args.site c.requires.site_value.0 c.args.order c.loop-j.j (turns (goal.at.offset_bounds-flows-j c).In-loop-j))
-
 pub bounds-flows-j : goal.bounds-flows-j
 bounds-flows-j c = in_array c.args.site c.requires.site_value.0 c.args.order c.loop-j.j (turns (goal.at.bounds-flows-j c).In-loop-j)
 

@@ -60,21 +60,6 @@ loop-c-init c = let args = c.args in (
   one_more _ args.counts.now 0 _ (omega arith) (sym (parent_firsts_root (at args.parents.now) (at args.starts.now))) (λ k h. omega arith),
 )
 
-pub bounds-counts-parent : goal.bounds-counts-parent
-bounds-counts-parent c = omega (arith, earlier (goal.at.bounds-counts-parent c).After-wide-parent)
-
-pub offset_bounds-starts-parent : goal.offset_bounds-starts-parent
-offset_bounds-starts-parent c = omega (arith, earlier (goal.at.offset_bounds-starts-parent c).After-wide-parent, low (goal.at.offset_bounds-starts-parent c).After-wide-parent)
-
-pub bounds-starts-parent : goal.bounds-starts-parent
-bounds-starts-parent c = omega (arith, earlier (goal.at.bounds-starts-parent c).After-wide-parent, low (goal.at.bounds-starts-parent c).After-wide-parent)
-
-pub offset_bounds-starts-c : goal.offset_bounds-starts-c
-offset_bounds-starts-c c = omega (arith, low (goal.at.offset_bounds-starts-c c).After-wide-parent)
-
-pub bounds-starts-c : goal.bounds-starts-c
-bounds-starts-c c = omega (arith, low (goal.at.bounds-starts-c c).After-wide-parent)
-
 pub overflow_add-count : goal.overflow_add-count
 overflow_add-count c = let turn = (goal.at.overflow_add-count c).After-wide-parent in
     omega (arith, parent_count turn, few turn, earlier turn, low turn)
