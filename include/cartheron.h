@@ -15,8 +15,7 @@
  * C code.
  *
  * Link with libcartheron.a where it is installed (pkg-config --cflags --libs cartheron), else with
- * target/staticlib/libcommission.a, which bin/library makes. It is x86-64 code,
- * for x86-64-v2 and above (SSE4.2).
+ * target/staticlib/libcommission.a, which bin/library makes. It is x86-64 code.
  */
 #ifndef CARTHERON_H
 #define CARTHERON_H
