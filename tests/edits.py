@@ -69,11 +69,15 @@ def function_at(crate, path, number):
     module = re.sub(r'(^|/)(lib|main|mod)$', '', path[len('src/'):-len('.rt')])
     within, name = '', '?'
     with open(os.path.join(CRATES, crate, path), encoding='utf-8') as source:
-        for line in list(source)[:number]:
-            if found := re.match(r'impl\b.*?(\w+)(<.*>)? *\{?$', line):
-                within = found[1]
-            elif found := re.match(r'( *)(?:pub(?:\(\w+\))? )?(?:const )?(?:unsafe )?(?:extern "C" )?fn (\w+)', line):
-                name = (within + '/' if found[1] else '') + found[2]
+        lines = list(source)
+    # a function begins with its attributes
+    while number < len(lines) and lines[number - 1].lstrip().startswith('#['):
+        number += 1
+    for line in lines[:number]:
+        if found := re.match(r'impl\b.*?(\w+)(<.*>)? *\{?$', line):
+            within = found[1]
+        elif found := re.match(r'( *)(?:pub(?:\(\w+\))? )?(?:const )?(?:unsafe )?(?:extern "C" )?fn (\w+)', line):
+            name = (within + '/' if found[1] else '') + found[2]
     return '/'.join(['proofs', *[module] * bool(module), name])
 
 
