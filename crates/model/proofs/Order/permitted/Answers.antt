@@ -1,16 +1,13 @@
 -- A period shorter than the interval decides at once, any other leaves it to the periods behind it, and where none is left the order is permitted.
-use Rattle.std.proofs.Common.{◌≡◌, sym, ◌∙◌, drop}
+use Rattle.std.proofs.Common.{◌≡◌, arith, sym, ◌∙◌, drop}
 use Rattle.model.specs.Orders.{within_all, permitted}
-use Rattle.model.specs.OrderLaws.{shorter_refuses, others_decide, none_refuses, no_order_refused, interval_decides}
+use Rattle.model.specs.OrderLaws.{shorter_refuses, others_decide, none_refuses, interval_decides}
 use Rattle.model.proofs.Order.permitted.Goals as goal
 use Rattle.model.proofs.Order.permitted.Goals.{At-loop-i}
 
-pub returns-then-self-gt-LARGEST : goal.returns-then-self-gt-LARGEST
-returns-then-self-gt-LARGEST c = sym (no_order_refused _ _ c.if-self-gt-LARGEST.true)
-
 -- at the loop, the periods that are left decide whether the order is permitted
 left_decide : (c : At-loop-i) → permitted c.args.self.number c.args.periods.now ≡ within_all c.interval-interval.result (drop c.loop-i.i c.args.periods.now)
-left_decide c = interval_decides _ _ _ c.if-self-gt-LARGEST.false c.interval-interval.ensures ∙ sym c.loop-i.invariant
+left_decide c = interval_decides _ _ _ (omega arith) c.interval-interval.ensures ∙ sym c.loop-i.invariant
 
 pub returns-then-periods-i : goal.returns-then-periods-i
 returns-then-periods-i c = sym (left_decide (goal.at.returns-then-periods-i c).At-loop-i ∙ shorter_refuses _ _ _ c.loop-i-test.true c.if-periods-i.true)
