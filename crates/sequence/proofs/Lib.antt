@@ -1,2 +1,2 @@
--- the lowest of the set is placed
+-- The lowest of the set is placed
 mod Placing

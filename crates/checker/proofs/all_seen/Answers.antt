@@ -1,4 +1,3 @@
--- `all` is whether each cluster below `c` was seen, and `c` does not pass `n`.
 use mathlib.Core.Path.{◌≡◌}
 use native.Mathlib.Numerals.{add-one}
 use native.Mathlib.Omega.{arith}

@@ -1,4 +1,4 @@
--- `all` is whether each cluster below `c` was seen, and `c` does not pass `n`.
+-- The invariant: `all` is whether each cluster below `c` was seen, and `c` does not pass `n`.
 use mathlib.Core.Path.{◌≡◌}
 use mathlib.Core.Bool.{false}
 use Prim.Native.Nat.{◌-◌, ◌≤◌}

@@ -1,6 +1,5 @@
--- The invariant is `Passing`: what was found so far decides together with the rows that are left as all rows do, and the starts of the clusters above are kept. A line that
--- keeps the layout is taken by the law of its cluster, one of the site's or none; one that breaks it ends the walk. That its tag has digits only is known where the tag is
--- the cluster's, and asked where it is not.
+-- A line that keeps the layout is taken by the law of its cluster, one of the site's or none; one that breaks it ends the walk. That its tag has digits only is known
+-- where the tag is the cluster's, and asked where it is not.
 use mathlib.Core.Path.{◌≡◌, sym, ap, ◌∙◌}
 use mathlib.Core.Bool.{true, false}
 use mathlib.Core.List.{List, ◌∷◌}

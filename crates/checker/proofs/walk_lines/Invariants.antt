@@ -1,6 +1,4 @@
--- The invariant is `Passing`: what was found so far decides together with the rows that are left as all rows do, and the starts of the clusters above are kept. A line that
--- keeps the layout is taken by the law of its cluster, one of the site's or none; one that breaks it ends the walk. That its tag has digits only is known where the tag is
--- the cluster's, and asked where it is not.
+-- The invariant is `Passing`: what was found so far decides together with the rows that are left as all rows do, and the starts of the clusters above are kept.
 use Prim.Native.Nat.{◌-◌}
 use lib.ListN.{length, drop}
 use Rattle.hexline.specs.Lines.{rows}

@@ -1,5 +1,5 @@
--- The loop's invariant: the parents of the clusters before `k` are filled in. They are those of the site that the records describe, and so the
--- depths, the lineages and the counts are. Where these counts are N, the constraints of all flows hold exactly if none is late.
+-- They are those of the site that the records describe, and so the depths, the lineages and the counts are. Where these counts are N, the constraints of all flows hold
+-- exactly if none is late.
 use mathlib.Core.Path.{◌≡◌, refl, sym, ap, ◌∙◌}
 use mathlib.Core.List.{List, ◌++◌}
 use Prim.Native.Nat.{ℕ, ◌≤◌, ◌<◌}

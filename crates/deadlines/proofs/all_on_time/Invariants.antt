@@ -1,5 +1,4 @@
--- The loop's invariant: the parents of the clusters before `k` are filled in. They are those of the site that the records describe, and so the
--- depths, the lineages and the counts are. Where these counts are N, the constraints of all flows hold exactly if none is late.
+-- The invariant: the parents of the clusters before `k` are filled in.
 use mathlib.Core.Path.{◌≡◌}
 use Prim.Native.Nat.{◌-◌, ◌≤◌}
 use Rattle.figures.specs.Numbers.{parents_of}

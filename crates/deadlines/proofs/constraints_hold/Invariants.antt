@@ -1,5 +1,4 @@
--- The loop's invariant: the constraints of the flows that are left decide as all of them do. One that is broken decides at once, any other
--- leaves it to those behind it, and where none is left all hold. The top of a path is not deeper than its sink, so the difference of their depths is there.
+-- The invariant: the constraints of the flows that are left decide as all of them do.
 use mathlib.Core.Path.{◌≡◌}
 use Prim.Native.Nat.{◌-◌}
 use lib.ListN.{drop}

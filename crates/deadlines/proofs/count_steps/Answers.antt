@@ -1,5 +1,5 @@
--- The counts of the clusters below `c` stand in their slice. The parent of `c` is one of these, and `c` counts one step more
--- exactly if its parent starts first. A count is at most the cluster's number, so that one more fits a byte.
+-- The parent of `c` is one of these, and `c` counts one step more exactly if its parent starts first. A count is at most the cluster's number, so that one more fits a
+-- byte.
 use mathlib.Core.Path.{◌≡◌, sym, ap, ◌∙◌}
 use Prim.Native.Nat.{ℕ, ◌+◌, ◌≤◌, ◌<◌}
 use native.Mathlib.Omega.{arith}

@@ -1,5 +1,4 @@
--- The counts of the clusters below `c` stand in their slice. The parent of `c` is one of these, and `c` counts one step more
--- exactly if its parent starts first. A count is at most the cluster's number, so that one more fits a byte.
+-- The invariant: the counts of the clusters below `c` stand in their slice.
 use mathlib.Core.Path.{◌≡◌}
 use Prim.Native.Nat.{ℕ, ◌-◌, ◌≤◌, ◌<◌}
 use lib.ListN.{length}

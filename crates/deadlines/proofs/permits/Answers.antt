@@ -1,5 +1,5 @@
--- The loop's invariant: the periods that are left decide as all of them do. A period shorter than the interval decides at once, any other
--- leaves it to the periods behind it, and where none is left the order is permitted. The periods are those of the flows that the records count.
+-- A period shorter than the interval decides at once, any other leaves it to the periods behind it, and where none is left the order is permitted. The periods are
+-- those of the flows that the records count.
 use mathlib.Core.Path.{◌≡◌, sym, ap, ◌∙◌}
 use mathlib.Core.List.{List}
 use Prim.Native.Nat.{ℕ, ◌<◌}

@@ -1,5 +1,4 @@
--- The loop of `figures::figures_of`, and what is known before it and in a turn. The invariant: the numbers of the flows before `i` are filled in, and the least of the period so far
--- and those of the flows from `i` on is the least of all. The top of a path is not deeper than its sink, so the difference of their depths is there.
+-- The invariant: the numbers of the flows before `i` are filled in, and the least of the period so far and those of the flows from `i` on is the least of all.
 use mathlib.Core.Path.{◌≡◌}
 use Prim.Native.Nat.{◌-◌, ◌≤◌}
 use lib.ListN.{take, drop}

@@ -1,4 +1,3 @@
--- The invariant: `all` says whether every character before `j` is a digit.
 use mathlib.Core.Path.{◌≡◌, sym}
 use native.Mathlib.Omega.{arith}
 use Rattle.hexline.specs.Loops.{every_none, every_next}

@@ -1,4 +1,3 @@
--- The invariant: `all` says whether the characters of the first `i` pairs are digits, and `out` has their bytes.
 -- A block that begins before `i` stores some bytes again.
 use mathlib.Core.Path.{◌≡◌, refl, sym}
 use Prim.Native.Nat.{◌/◌}

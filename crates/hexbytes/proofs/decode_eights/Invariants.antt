@@ -1,5 +1,4 @@
 -- The invariant: `all` says whether the characters of the first `i` pairs are digits, and `out` has their bytes.
--- A block that begins before `i` stores some bytes again.
 use mathlib.Core.Path.{◌≡◌}
 use Prim.Native.Nat.{◌*◌, ◌-◌, ◌≤◌}
 use lib.ListN.{get_or}

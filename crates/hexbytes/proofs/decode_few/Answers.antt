@@ -1,4 +1,3 @@
--- The invariant: `out` has the line's first `i` bytes.
 use mathlib.Core.Path.{◌≡◌, refl, ◌∙◌}
 use Prim.Native.Nat.{◌/◌}
 use native.Mathlib.Nat.{zero-add}

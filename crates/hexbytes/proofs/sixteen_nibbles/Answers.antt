@@ -1,4 +1,3 @@
--- The invariant: the first `j` values are those of the line.
 use mathlib.Core.Path.{◌≡◌, refl}
 use native.Mathlib.Omega.{arith}
 use Rattle.hexline.specs.Loops.{filled, filled_next}

@@ -1,4 +1,3 @@
--- The invariant: the first `j` bytes are stored.
 use mathlib.Core.Path.{◌≡◌, sym}
 use native.Mathlib.Omega.{arith}
 use Rattle.hexbytes.specs.Blocks.{laid_none, laid_more}

@@ -1,5 +1,4 @@
--- the line that begins at `i` ends where the one that begins at `at` does. Eight bytes without an LF are passed
--- at a time.
+-- Eight bytes without an LF are passed at a time.
 use mathlib.Core.Path.{sym, ◌∙◌}
 use native.Mathlib.Omega.{arith}
 use Rattle.hexline.specs.LineLaws.{line_passes}

@@ -1,5 +1,4 @@
--- the line that begins at `i` ends where the one that begins at `at` does. Eight bytes without an LF are passed
--- at a time.
+-- The invariant: the line that begins at `i` ends where the one that begins at `at` does.
 use mathlib.Core.Path.{◌≡◌}
 use Prim.Native.Nat.{◌+◌, ◌-◌, ◌≤◌}
 use lib.ListN.{length, drop}

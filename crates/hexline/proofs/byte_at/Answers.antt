@@ -1,4 +1,4 @@
--- two digits, each with the value that `digit` gives.
+-- Two digits, each with the value that `digit` gives.
 use Rattle.hexline.specs.Digits.{byte_at}
 use Rattle.hexline.proofs.byte_at.Goals as goal
 

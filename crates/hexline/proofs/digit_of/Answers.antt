@@ -1,4 +1,4 @@
--- each return stands in one range of characters, and the law of that range gives the value.
+-- Each return stands in one range of characters, and the law of that range gives the value.
 use mathlib.Core.Path.{sym}
 use Rattle.hexline.specs.DigitLaws.{below_digits, decimal_digit, amid_digits, letter_digit, above_digits}
 use borrow.Author.Rules.{rules}

@@ -1,4 +1,3 @@
--- `all` says whether none of the bytes before `j` is an LF.
 use mathlib.Core.Path.{◌≡◌, sym}
 use native.Mathlib.Omega.{arith}
 use borrow.Author.Rules.{rules}

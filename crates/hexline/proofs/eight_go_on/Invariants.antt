@@ -1,4 +1,4 @@
--- `all` says whether none of the bytes before `j` is an LF.
+-- The invariant: `all` says whether none of the bytes before `j` is an LF.
 use mathlib.Core.Path.{◌≡◌}
 use mathlib.Core.Bool.{not}
 use Prim.Native.Nat.{◌+◌, ◌-◌, ◌≤◌}

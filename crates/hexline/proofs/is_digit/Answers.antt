@@ -1,4 +1,4 @@
--- its two ranges are the definition's.
+-- Its two ranges are the definition's.
 use mathlib.Core.Path.{refl}
 use Rattle.hexline.specs.Digits.{is_digit}
 use Rattle.hexline.proofs.is_digit.Goals as goal

@@ -1,5 +1,3 @@
--- the line that begins at `i` ends where the one that begins at `at` does, and it holds of the place that
--- `behind_eights` gives.
 use native.Mathlib.Omega.{arith}
 use Rattle.hexline.specs.LineLaws.{line_goes_on, line_ends, line_none}
 use borrow.Author.Rules.{rules}

@@ -1,5 +1,4 @@
--- the line that begins at `i` ends where the one that begins at `at` does, and it holds of the place that
--- `behind_eights` gives.
+-- The invariant: the line that begins at `i` ends where the one that begins at `at` does, and it holds of the place that `behind_eights` gives.
 use mathlib.Core.Path.{◌≡◌}
 use Prim.Native.Nat.{◌+◌, ◌≤◌, ◌-◌}
 use lib.ListN.{length, drop}

@@ -1,4 +1,3 @@
--- `number` is that of the first `i` bytes, and below 256 ^ i.
 use mathlib.Core.Path.{◌≡◌, sym}
 use Prim.Native.Nat.{◌+◌}
 use native.Mathlib.Omega.{arith}

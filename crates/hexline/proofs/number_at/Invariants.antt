@@ -1,4 +1,4 @@
--- `number` is that of the first `i` bytes, and below 256 ^ i.
+-- The invariant: `number` is that of the first `i` bytes, and below 256 ^ i.
 use mathlib.Core.Path.{◌≡◌}
 use Prim.Native.Nat.{◌^◌, ◌≤◌, ◌<◌, ◌-◌}
 use Rattle.hexline.specs.Digits.{number_at}

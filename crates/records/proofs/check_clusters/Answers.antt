@@ -1,5 +1,3 @@
--- The first bad cluster from `i` on decides as the first of all does. In the inner
--- loop no cluster before `j` has cluster i's tag.
 use mathlib.Core.Path.{◌≡◌, sym, ap, ◌∙◌}
 use mathlib.Core.Bool.{not}
 use native.Mathlib.Nat.{sub-zero}

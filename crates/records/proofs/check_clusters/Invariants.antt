@@ -1,5 +1,4 @@
--- the first bad cluster from `i` on decides as the first of all does. In the inner
--- loop no cluster before `j` has cluster i's tag.
+-- The invariants: the first bad cluster from `i` on decides as the first of all does. In the inner loop no cluster before `j` has cluster i's tag.
 use mathlib.Core.Path.{◌≡◌}
 use mathlib.Core.Bool.{true, not}
 use Prim.Native.Nat.{◌≤◌, ◌-◌}

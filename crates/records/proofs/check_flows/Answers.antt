@@ -1,4 +1,3 @@
--- The first bad flow from `j` on decides as the first of all does.
 use mathlib.Core.Path.{sym, ◌∙◌}
 use native.Mathlib.Nat.{sub-zero}
 use Rattle.records.specs.Check.{flows_verdict}

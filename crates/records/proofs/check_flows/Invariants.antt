@@ -1,4 +1,4 @@
--- the first bad flow from `j` on decides as the first of all does.
+-- The invariant: the first bad flow from `j` on decides as the first of all does.
 use mathlib.Core.Path.{◌≡◌}
 use Prim.Native.Nat.{◌≤◌, ◌-◌}
 use Rattle.records.specs.Check.{flow_checked, each_of, flows_verdict}

@@ -1,4 +1,3 @@
--- No tag byte before `i` is bad.
 use mathlib.Core.Path.{sym}
 use native.Mathlib.Omega.{arith}
 use borrow.Author.Count.{below_more}

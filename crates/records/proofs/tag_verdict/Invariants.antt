@@ -1,4 +1,4 @@
--- no tag byte before `i` is bad.
+-- The invariant: no tag byte before `i` is bad.
 use mathlib.Core.Path.{◌≡◌}
 use mathlib.Core.Bool.{false}
 use Prim.Native.Nat.{ℕ, ◌-◌, ◌≤◌, ◌<◌}

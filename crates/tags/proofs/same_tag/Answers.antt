@@ -1,5 +1,4 @@
--- The invariant: the bytes before `i` agree. The loop stops where the arrays end; a law says that nothing
--- behind that can differ.
+-- The loop stops where the arrays end; a law says that nothing behind that can differ.
 use mathlib.Core.Path.{◌≡◌, sym}
 use Prim.Native.Nat.{min}
 use native.Mathlib.Omega.{arith}

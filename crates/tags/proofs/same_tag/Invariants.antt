@@ -1,5 +1,4 @@
--- The invariant: the bytes before `i` agree. The loop stops where the arrays end; a law says that nothing
--- behind that can differ.
+-- The invariant: the bytes before `i` agree.
 use mathlib.Core.Path.{◌≡◌}
 use mathlib.Core.Bool.{true}
 use Prim.Native.Nat.{◌≤◌, ◌-◌}

@@ -1,4 +1,3 @@
--- The size so far and that of the lines left are the size of all.
 use mathlib.Core.Path.{ap}
 use Prim.Native.Nat.{◌≤◌}
 use native.Mathlib.Omega.{arith}

@@ -1,4 +1,4 @@
--- The size so far and that of the lines left are the size of all.
+-- The invariant: the size so far and that of the lines left are the size of all.
 use mathlib.Core.Path.{◌≡◌}
 use Prim.Native.Nat.{◌+◌, ◌*◌, ◌≤◌, ◌-◌}
 use lib.ListN.{length, take}

@@ -1,5 +1,3 @@
--- The room with the lines from record `i` on put at `to` is the old room with all of them put at
--- `at`.
 use Prim.Native.Nat.{◌≤◌}
 use lib.ListN.{length}
 use Rattle.hexroom.specs.Listing.{putting_starts, putting_next, putting_ends, next_fits}

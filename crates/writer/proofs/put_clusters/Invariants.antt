@@ -1,5 +1,4 @@
--- The room with the lines from record `i` on put at `to` is the old room with all of them put at
--- `at`.
+-- The invariant: the room with the lines from record `i` on put at `to` is the old room with all of them put at `at`.
 use Prim.Native.Nat.{◌-◌}
 use Rattle.hexroom.specs.Listing.{Putting}
 use Rattle.writer.specs.Text.{cluster_bytes}

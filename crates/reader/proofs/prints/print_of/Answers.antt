@@ -1,4 +1,3 @@
--- The invariant: `sum` and `sums` are those of the first `k` words, and far from 2 ^ 64.
 use mathlib.Core.Path.{◌≡◌, refl}
 use native.Mathlib.Omega.{arith}
 use Rattle.reader.specs.Prints.{total, totals, print_of}

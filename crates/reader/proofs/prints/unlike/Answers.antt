@@ -1,4 +1,3 @@
--- The invariant: `none` says whether every number before `i` is another.
 use mathlib.Core.Path.{◌≡◌, sym}
 use native.Mathlib.Omega.{arith}
 use Rattle.hexline.specs.Loops.{every_none, every_next}

@@ -1,5 +1,4 @@
--- The invariant: every tag byte before `i` is printable, and `b` is tag byte `i`. One of all is not printable, so
--- `i` stays below their number.
+-- One of all is not printable, so `i` stays below their number.
 use mathlib.Core.Path.{◌≡◌}
 use mathlib.Core.Bool.{false}
 use mathlib.Core.List.{List}

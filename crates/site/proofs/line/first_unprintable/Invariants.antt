@@ -1,5 +1,4 @@
--- The invariant: every tag byte before `i` is printable, and `b` is tag byte `i`. One of all is not printable, so
--- `i` stays below their number.
+-- The invariant: every tag byte before `i` is printable, and `b` is tag byte `i`.
 use mathlib.Core.Path.{◌≡◌}
 use mathlib.Core.Bool.{false}
 use Prim.Native.Nat.{ℕ, ◌+◌, ◌-◌, ◌<◌}

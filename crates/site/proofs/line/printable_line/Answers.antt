@@ -1,4 +1,3 @@
--- The invariant: `all` says whether the tag bytes before `i` are all from 21 to 7E.
 use mathlib.Core.Path.{◌≡◌, sym}
 use native.Mathlib.Omega.{arith}
 use Rattle.hexline.specs.Loops.{every_none, every_next}
