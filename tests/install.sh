@@ -63,9 +63,9 @@ completes() { # EXPECTED WORD..: what the completion offers for the last word
     [ "${COMPREPLY[*]}" = "$expected" ] || fail "completion of '$*' gave '${COMPREPLY[*]}'"
 }
 
-mkdir "$work/root"
-make -s install DESTDIR="$work/root" >/dev/null
-(cd "$work/root/usr/local" && find . ! -type d -printf '%m %P\n' | LC_ALL=C sort -k 2) | diff - /dev/fd/3 3<<'FILES' ||
+mkdir "$work/stage"
+make -s install DESTDIR="$work/stage" >/dev/null
+(cd "$work/stage/usr/local" && find . ! -type d -printf '%m %P\n' | LC_ALL=C sort -k 2) | diff - /dev/fd/3 3<<'FILES' ||
 755 bin/cartheron
 644 include/cartheron.h
 644 lib/libcartheron.a
@@ -76,9 +76,9 @@ make -s install DESTDIR="$work/root" >/dev/null
 644 share/man/man5/cartheron.5
 FILES
     fail "other files are installed"
-client "$work/root" /usr/local
-command_answers "$work/root/usr/local/bin/cartheron"
-. "$work/root/usr/local/share/bash-completion/completions/cartheron"
+client "$work/stage" /usr/local
+command_answers "$work/stage/usr/local/bin/cartheron"
+. "$work/stage/usr/local/share/bash-completion/completions/cartheron"
 completes "picture" cartheron pi
 completes "plan show site picture rewrite check --help --version" cartheron ''
 completes "--json" cartheron show --j
@@ -88,8 +88,8 @@ completes "sites/pump-hall.site" cartheron plan sites/pump-hall.s
 completes "sites/pump-hall.site" cartheron plan -o sites/pump-hall.s
 completes "sites/pump-hall.site" cartheron check sites/pump-hall.s
 completes "sites/pump-hall-vendor.plan" cartheron check sites/pump-hall.site sites/pump-hall-vendor.
-make -s uninstall DESTDIR="$work/root"
-[ -z "$(ls -A "$work/root")" ] || fail "uninstalling left $(find "$work/root")"
+make -s uninstall DESTDIR="$work/stage"
+[ -z "$(ls -A "$work/stage")" ] || fail "uninstalling left $(find "$work/stage")"
 
 mkdir "$work/own"
 make -s install PREFIX="$work/own" >/dev/null
