@@ -14,17 +14,15 @@ pub fn climb(parents: &[u8], depths: &mut [u8], lineages: &mut [u64])
     requires { (length parents.now ≤ 64) × (length depths.old ≡ length parents.now) × (length lineages.old ≡ length parents.now) × Tree (number_in parents.now) (length parents.now) }
     ensures { (depths.new ≡ values (depth (number_in parents.now)) 0 (length parents.now)) × (lineages.new ≡ values (lineage (number_in parents.now)) 0 (length parents.now)) }
 {
-    if parents.len() == 0 {
+    if parents.is_empty() {
         return;
     }
     depths[0] = 0;
     lineages[0] = 1;
-    let mut c: usize = 1;
-    while c < parents.len() {
-        let parent = parents[c] as usize;
+    for c in 1..parents.len() {
+        let parent = usize::from(parents[c]);
         depths[c] = depths[parent] + 1;
         lineages[c] = lineages[parent] + (1u64 << c);
-        c += 1;
     }
 }
 

@@ -1,5 +1,5 @@
 -- The invariant: the depths and the lineages of the clusters below `c` stand in their slices.
-use Rattle.std.proofs.Common.{◌≡◌, List, ℕ, ◌-◌, ◌≤◌, ◌<◌, length}
+use Rattle.std.proofs.Common.{◌≡◌, List, ℕ, ◌<◌, length}
 use Rattle.model.specs.Counting.{at}
 use Rattle.model.specs.Trees.{depth}
 use Rattle.tree.specs.Lineage.{lineage}
@@ -11,7 +11,4 @@ Stands f l c = (k : ℕ) → k < c → at l k ≡ f k
 
 abbrev pub invariant-loop-c : goal.invariant-loop-c
 invariant-loop-c l =
-    (1 ≤ l.c) × (l.c ≤ length l.parents) × (length l.depths ≡ length l.parents) × (length l.lineages ≡ length l.parents) × Stands (depth (at l.parents)) l.depths l.c × Stands (lineage (at l.parents)) l.lineages l.c
-
-abbrev pub decreases-loop-c : goal.decreases-loop-c
-decreases-loop-c l = length l.parents - l.c
+    (length l.depths ≡ length l.parents) × (length l.lineages ≡ length l.parents) × Stands (depth (at l.parents)) l.depths l.c × Stands (lineage (at l.parents)) l.lineages l.c
