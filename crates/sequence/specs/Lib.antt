@@ -8,3 +8,5 @@ pub mod HoldingLaws
 pub mod MarkLaws
 pub mod Running
 pub mod WaitingLaws
+-- what holds the clusters back, before and after
+pub mod Waits

@@ -1,5 +1,5 @@
 -- Sets of clusters as the bits of a number below 2 ^ 64: the lowest of a set, a cluster that joins it and one that leaves it. A bit is set by a sum and taken off by a difference.
-use Rattle.std.specs.Prelude.{◌≡◌, refl, Bool, true, false, ◌&&◌, ℕ, zero, suc, ◌+◌, ◌-◌, ◌*◌, ◌/◌, ◌%◌, ◌^◌, ◌≤◌, ◌<◌, eqb}
+use Rattle.std.specs.Prelude.{◌≡◌, refl, Bool, true, false, ◌&&◌, ℕ, zero, suc, ◌+◌, ◌-◌, ◌*◌, ◌/◌, ◌%◌, ◌^◌, ◌≤◌, ◌<◌, eqb, Option, MatchOption}
 use Rattle.std.proofs.Common.{◌∙◌, pow-suc, arith, lit<, pow_pos, shl_exact}
 use Rattle.std.proofs.Math.Bool.{and-true, and-false}
 use Rattle.std.specs.Int.Count.{count_trailing_zeros, under}
@@ -26,6 +26,10 @@ Joined set c comes r = (j : ℕ) → bit_at r j ≡ bit_at set j + bit (eqb j c 
 pub record Parted (set c r : ℕ) : Type 0 where
   pub fewer : r < set
   pub each : (j : ℕ) → bit_at r j + bit (eqb j c) ≡ bit_at set j
+
+-- a step over the clusters of a set: the lowest comes, and is left out from then on; nothing comes where none is left
+abbrev pub Taken : ℕ → Option ℕ → ℕ → Type 0
+Taken set r later = MatchOption r ((set ≡ 0) × (later ≡ 0)) (λ c. LowestOf set c × Parted set c later)
 
 -- ## The lowest
 

@@ -1,149 +1,169 @@
 // The clusters in order of start (docs/FORMATS.md, "The plan that is returned"): each time the
 // lowest-numbered cluster all of whose required predecessors are placed comes next. How much holds
 // each cluster back is counted once, in a pass over the clusters and their parents, and lowered as
-// clusters are placed. A number's 64 bits are a set of clusters: those that nothing holds back, and
-// for each cluster the children that wait for it. So n clusters take a number of steps in proportion
-// to n.
+// clusters are placed. Those that nothing holds back are kept as a set, and so are, for each
+// cluster, the children that wait for it. So n clusters take a number of steps in proportion to n.
 #![tactic(auto)]
 
-ghost use Rattle.std.specs.Prelude.{◌≡◌, [], ◌+◌, ◌≤◌, ◌<◌, eqb, length, set};
+ghost use Rattle.std.specs.Prelude.{◌≡◌, ◌⊎◌, [], ◌+◌, ◌≤◌, ◌<◌, eqb, length, set, MatchOption};
 ghost use Rattle.model.specs.Counting.{at, bit};
 ghost use Rattle.sequence.specs.Holding.{Sized, later_of, child_first, Held, Following, Marked, Within, Lowerable, Lowered, Sequenced};
-ghost use Rattle.sequence.specs.Sets.{bit_at, LowestOf, Joined, Parted};
+ghost use Rattle.sequence.specs.Sets.{bit_at};
 
-use model::wide;
+mod clusters;
 
-// The lowest cluster of a set that is not empty.
-fn lowest(mask: u64) -> usize
-    requires { 0 < mask }
-    ensures { LowestOf mask result }
-{
-    u64::trailing_zeros(mask) as usize
+use clusters::Clusters;
+
+// At most 64 clusters, each with its parent and its N.
+#[derive(Clone, Copy)]
+struct Tree<'a> {
+    parents: &'a [u8],
+    counts: &'a [u8],
+    ghost sized: { Sized parents.now counts.now },
 }
 
-// The set with c, which was not in it, where c comes in.
-fn joined(mask: u64, c: usize, comes: bool) -> u64
-    requires { (c < 64) × (bit_at mask c ≡ 0) }
-    ensures { Joined mask c comes result }
-{
-    mask + ((comes as u64) << c)
-}
-
-// The set without c, which was in it.
-fn parted(mask: u64, c: usize) -> u64
-    requires { (c < 64) × (bit_at mask c ≡ 1) }
-    ensures { Parted mask c result }
-{
-    mask - (1u64 << c)
-}
-
-// The one of c and its parent p that comes after the other: c where the count grows, and p where it
-// stays.
-#[tactic(auto, unfolding(crate::specs::Holding::later_of))]
-fn later_of(counts: &[u8], p: usize, c: usize) -> usize
-    requires { (p < length counts.now) × (c < length counts.now) }
-    ensures { result ≡ later_of (at counts.now) p c }
-{
-    if counts[p] < counts[c] { c } else { p }
-}
-
-// How much holds each cluster back before any cluster is placed: of each cluster and its parent, one
-// waits for the other.
-fn held_at_first(parents: &[u8], counts: &[u8]) -> [u8; 64]
-    requires { Sized parents.now counts.now }
-    ensures { Held (length parents.now) (at parents.now) (at counts.now) [] result }
-{
-    let mut held = [0; 64];
-    let mut c: usize = 1;
-    while c < parents.len() {
-        let p = wide(parents[c]);
-        if p < parents.len() {
-            let later = later_of(counts, p, c);
-            held[later] += 1;
-        }
-        c += 1;
+impl<'a> Tree<'a> {
+    // How many clusters there are.
+    fn len(&self) -> usize
+        ensures { result ≡ length self.now.parents.now }
+    {
+        self.parents.len()
     }
-    held
+
+    // The parent of c: the root has none, nor has a cluster whose parent is given as no cluster.
+    fn parent(&self, c: usize) -> Option<usize>
+        requires { c < length self.now.parents.now }
+        ensures { MatchOption result
+            ((c ≡ 0) ⊎ (length self.now.parents.now ≤ at self.now.parents.now c))
+            (λ p. (p ≡ at self.now.parents.now c) × (0 < c) × (p < length self.now.parents.now)) }
+    {
+        let p = usize::from(self.parents[c]);
+        if (c == 0) | (self.parents.len() <= p) {
+            None
+        } else {
+            Some(p)
+        }
+    }
+
+    // The one of c and its parent p that comes after the other: c where the count grows, and p where
+    // it stays.
+    #[tactic(auto, unfolding(crate::specs::Holding::later_of))]
+    fn later_of(&self, p: usize, c: usize) -> usize
+        requires { (p < length self.now.parents.now) × (c < length self.now.parents.now) }
+        ensures later { result ≡ later_of (at self.now.counts.now) p c }
+        ensures within { result < length self.now.parents.now }
+    {
+        if self.counts[p] < self.counts[c] {
+            c
+        } else {
+            p
+        }
+    }
+
+    // How much holds each cluster back before any cluster is placed: of each cluster and its parent,
+    // one waits for the other.
+    fn held_at_first(&self) -> [u8; 64]
+        ensures { Held (length self.now.parents.now) (at self.now.parents.now) (at self.now.counts.now) [] result }
+    {
+        let mut held = [0; 64];
+        for c in 1..self.len() {
+            if let Some(p) = self.parent(c) {
+                let later = self.later_of(p, c);
+                held[later] += 1;
+            }
+        }
+        held
+    }
+
+    // For each cluster the set of its children that come after it.
+    fn followers(&self) -> [Clusters; 64]
+        ensures { Following (length self.now.parents.now) (at self.now.parents.now) (at self.now.counts.now) result }
+    {
+        let mut sets = [Clusters::new(); 64];
+        for c in 1..self.len() {
+            if let Some(p) = self.parent(c) {
+                sets[p].insert_if(c, self.counts[p] < self.counts[c]);
+            }
+        }
+        sets
+    }
 }
 
-// For each cluster the set of its children that come after it.
-fn followers(parents: &[u8], counts: &[u8]) -> [u64; 64]
-    requires { Sized parents.now counts.now }
-    ensures { Following (length parents.now) (at parents.now) (at counts.now) result }
-{
-    let mut sets = [0; 64];
-    let mut c: usize = 1;
-    while c < parents.len() {
-        let p = wide(parents[c]);
-        if p < parents.len() {
-            sets[p] = joined(sets[p], c, counts[p] < counts[c]);
-        }
-        c += 1;
-    }
-    sets
+// How much holds each of n clusters back, and the set of those that nothing holds back.
+#[derive(Drop)]
+struct Waiting {
+    n: usize,
+    held: [u8; 64],
+    free: Clusters,
+    ghost few: { n ≤ 64 },
+    ghost marked: { Marked n held free },
 }
 
 // The set of those of n clusters that nothing holds back.
-fn free_at_first(held: &[u8; 64], n: usize) -> u64
+fn free_at_first(held: &[u8; 64], n: usize) -> Clusters
     requires { (n ≤ 64) × (length held.now ≡ 64) }
     ensures { Marked n held.now result }
 {
-    let mut free: u64 = 0;
-    let mut c: usize = 0;
-    while c < n {
-        free = joined(free, c, held[c] == 0);
-        c += 1;
+    let mut free = Clusters::new();
+    for (c, &by) in held[..n].iter().enumerate() {
+        free.insert_if(c, by == 0);
     }
     free
 }
 
-// One cluster less holds c back. Gives the set of those of n clusters that nothing holds back then.
-fn lower(held: &mut [u8; 64], free: u64, n: usize, c: usize) -> u64
-    requires { (n ≤ 64) × (c < n) × (0 < at held.old c) × Marked n held.old free }
-    ensures { Lowered n (λ j. bit (eqb j c)) held.old held.new × Marked n held.new result }
-{
-    let left = held[c] - 1;
-    held[c] = left;
-    joined(free, c, left == 0)
-}
+impl Waiting {
+    ghost use Rattle.sequence.specs.Waits.{Lowers};
 
-// The clusters of a set no longer wait for one that they waited for.
-fn release_all(mask: u64, held: &mut [u8; 64], free: u64, n: usize) -> u64
-    requires { (n ≤ 64) × Lowerable n (bit_at mask) held.old × Within n mask × Marked n held.old free }
-    ensures { Lowered n (bit_at mask) held.old held.new × Marked n held.new result }
-{
-    let mut waiting = mask;
-    let mut now_free = free;
-    while 0 < waiting {
-        let c = lowest(waiting);
-        waiting = parted(waiting, c);
-        now_free = lower(held, now_free, n, c);
+    // Before any cluster is placed.
+    fn at_first(tree: &Tree<'_>) -> Self
+        ensures n { result.n ≡ length tree.now.parents.now }
+        ensures held { Held (length tree.now.parents.now) (at tree.now.parents.now) (at tree.now.counts.now) [] result.held }
+    {
+        let n = tree.len();
+        let held = tree.held_at_first();
+        let free = free_at_first(&held, n);
+        Self { n, held, free }
     }
-    now_free
-}
 
-// The parent of x, where it comes after x, no longer waits for it.
-fn release_parent(parents: &[u8], counts: &[u8], held: &mut [u8; 64], free: u64, x: usize) -> u64
-    requires { Sized parents.now counts.now × (x < length parents.now) × Lowerable (length parents.now) (λ c. bit (child_first (at parents.now) (at counts.now) x c)) held.old × Marked (length parents.now) held.old free }
-    ensures { Lowered (length parents.now) (λ c. bit (child_first (at parents.now) (at counts.now) x c)) held.old held.new × Marked (length parents.now) held.new result }
-{
-    let p = wide(parents[x]);
-    if (x == 0) | (parents.len() <= p) {
-        return free;
+    // One cluster less holds c back.
+    fn lower(&mut self, c: usize)
+        requires { (c < self.old.n) × (0 < at self.old.held c) }
+        ensures { Lowers (λ j. bit (eqb j c)) self.old self.new }
+    {
+        self.held[c] -= 1;
+        self.free.insert_if(c, self.held[c] == 0);
     }
-    if counts[p] < counts[x] {
-        return free;
-    }
-    lower(held, free, parents.len(), p)
-}
 
-// x is placed: from now on it holds back itself.
-fn mark(held: &mut [u8; 64], free: u64, n: usize, x: usize) -> u64
-    requires { (n ≤ 64) × (x < n) × (at held.old x ≡ 0) × Marked n held.old free }
-    ensures { (held.new ≡ set held.old x (at held.old x + 1)) × Marked n held.new result }
-{
-    held[x] += 1;
-    parted(free, x)
+    // The clusters of a set no longer wait for one that they waited for.
+    fn release_all(&mut self, set: Clusters)
+        requires { Lowerable self.old.n (bit_at set) self.old.held × Within self.old.n set }
+        ensures { Lowers (bit_at set) self.old self.new }
+    {
+        for c in set.members() {
+            self.lower(c);
+        }
+    }
+
+    // The parent of x, where it comes after x, no longer waits for it.
+    fn release_parent(&mut self, tree: &Tree<'_>, x: usize)
+        requires { (self.old.n ≡ length tree.now.parents.now) × (x < self.old.n) × Lowerable self.old.n (λ c. bit (child_first (at tree.now.parents.now) (at tree.now.counts.now) x c)) self.old.held }
+        ensures { Lowers (λ c. bit (child_first (at tree.now.parents.now) (at tree.now.counts.now) x c)) self.old self.new }
+    {
+        if let Some(p) = tree.parent(x) {
+            if tree.counts[x] <= tree.counts[p] {
+                self.lower(p);
+            }
+        }
+    }
+
+    // x is placed: from now on it holds back itself.
+    fn mark(&mut self, x: usize)
+        requires { (x < self.old.n) × (at self.old.held x ≡ 0) }
+        ensures { (self.new.n ≡ self.old.n) × (self.new.held ≡ set self.old.held x (at self.old.held x + 1)) }
+    {
+        self.held[x] += 1;
+        self.free.remove(x);
+    }
 }
 
 // Fills the first entries of `placed` with the clusters in order of start, and gives how many there
@@ -153,20 +173,17 @@ pub fn sequence(parents: &[u8], counts: &[u8], placed: &mut [u8]) -> usize
     requires { Sized parents.now counts.now × (length placed.old ≡ length parents.now) }
     ensures { Sequenced (length parents.now) (at parents.now) (at counts.now) placed.old placed.new result }
 {
-    let mut held = held_at_first(parents, counts);
-    let after = followers(parents, counts);
-    let mut free = free_at_first(&held, parents.len());
-    let mut k: usize = 0;
-    while k < parents.len() {
-        if free == 0 {
+    let tree = Tree { parents, counts };
+    let after = tree.followers();
+    let mut waiting = Waiting::at_first(&tree);
+    for (k, place) in placed.iter_mut().enumerate() {
+        let Some(x) = waiting.free.lowest() else {
             return k;
-        }
-        let x = lowest(free);
-        placed[k] = x as u8;
-        free = release_all(after[x], &mut held, free, parents.len());
-        free = release_parent(parents, counts, &mut held, free, x);
-        free = mark(&mut held, free, parents.len(), x);
-        k += 1;
+        };
+        *place = x as u8;
+        waiting.release_all(after[x]);
+        waiting.release_parent(&tree, x);
+        waiting.mark(x);
     }
-    k
+    parents.len()
 }

@@ -1,10 +1,6 @@
 -- The invariant: the set has those of the clusters below `c` that nothing holds back.
-use Rattle.std.proofs.Common.{◌-◌, ◌≤◌}
 use Rattle.sequence.specs.Holding.{Marked}
 use Rattle.sequence.proofs.free_at_first.Given as goal
 
 abbrev pub invariant-loop-c : goal.invariant-loop-c
-invariant-loop-c l = (l.c ≤ l.n) × Marked l.c l.held l.free
-
-abbrev pub decreases-loop-c : goal.decreases-loop-c
-decreases-loop-c l = l.n - l.c
+invariant-loop-c l = Marked l.c l.held l.free
