@@ -1,20 +1,21 @@
 // The answers, on standard output.
-ghost use Rattle.std.specs.Prelude.{◌≡◌, ◌≤◌, length};
-ghost use Rattle.hexline.specs.Digits.{field_bytes};
+ghost use Rattle.std.specs.Prelude.{◌≤◌, length};
+ghost use Rattle.hexroom.specs.Fields.{bytes_of_fields};
 
 use crate::MOST_BYTES;
+use hexroom::Field;
 use planner::Planned;
 use reader::Reading;
 use site::{Entry, Verdict};
 use std::io;
 use writer::Written;
 
-// Prints numbers of the given widths, eight bytes at most, as a line of hexadecimal.
-fn print_line(rt: &impl Print, widths: &[usize], values: &[u64]) -> io::Result<()>
-    requires { (length widths.now ≡ length values.now) × (length (field_bytes widths.now values.now) ≤ 8) }
+// Prints fields, eight bytes at most, as a line of hexadecimal.
+fn print_line(rt: &impl Print, fields: &[Field]) -> io::Result<()>
+    requires { length (bytes_of_fields fields.now) ≤ 8 }
 {
     let mut line = [0u8; 17];
-    let n = hexroom::put_line(&mut line, 0, widths, values, b"");
+    let n = hexroom::put_line(&mut line, 0, fields, b"");
     rt.write_all(&line[..n])
 }
 
@@ -22,8 +23,12 @@ fn print_line(rt: &impl Print, widths: &[usize], values: &[u64]) -> io::Result<(
 fn print_refusal(rt: &impl Print, number: u8, line: usize, place: u16) -> io::Result<()> {
     print_line(
         rt,
-        &[1, 1, 2, 1],
-        &[0x8F, number as u64, line as u64, place as u64],
+        &[
+            Field::byte(0x8F),
+            Field::byte(number),
+            Field::new(2, line as u64),
+            Field::new(1, u64::from(place)),
+        ],
     )
 }
 
@@ -44,8 +49,11 @@ pub fn print_reading(rt: &impl Print, reading: Reading) -> io::Result<usize> {
             let site = reading.site;
             print_line(
                 rt,
-                &[1, 1, 1],
-                &[0x80, site.cluster_count as u64, site.flow_count as u64],
+                &[
+                    Field::byte(0x80),
+                    Field::byte(site.cluster_count),
+                    Field::byte(site.flow_count),
+                ],
             )?;
             Ok(0)
         }
@@ -54,7 +62,7 @@ pub fn print_reading(rt: &impl Print, reading: Reading) -> io::Result<usize> {
 
 // Prints that something was taken: 80.
 fn print_taken(rt: &impl Print) -> io::Result<()> {
-    print_line(rt, &[1], &[0x80])
+    print_line(rt, &[Field::byte(0x80)])
 }
 
 // Prints what is said of a plan: 80, or the refusal.
@@ -113,7 +121,7 @@ pub fn print_written(
             place,
         } => print_refusal(rt, number, line, place),
         Written::Length(n) => {
-            print_line(rt, &[1, 4], &[0x80, n as u64])?;
+            print_line(rt, &[Field::byte(0x80), Field::new(4, n as u64)])?;
             print_first(rt, space, n)
         }
     }
@@ -133,7 +141,14 @@ pub fn print_planned(
             place,
         } => print_refusal(rt, number, line, place),
         Planned::Plan { length, order } => {
-            print_line(rt, &[1, 4, 1], &[0x80, length as u64, order as u64])?;
+            print_line(
+                rt,
+                &[
+                    Field::byte(0x80),
+                    Field::new(4, length as u64),
+                    Field::byte(order),
+                ],
+            )?;
             print_first(rt, space, length)
         }
     }
@@ -154,15 +169,21 @@ fn changed(space: &[u8; MOST_BYTES]) -> u16 {
 
 // Prints how many bytes of a space of '.' changed.
 pub fn print_changed(rt: &impl Print, space: &[u8; MOST_BYTES]) -> io::Result<()> {
-    print_line(rt, &[4], &[changed(space) as u64])
+    print_line(rt, &[Field::new(4, u64::from(changed(space)))])
 }
 
 // Prints the number that a client without a room got.
 pub fn print_alone(rt: &impl Print, number: u32) -> io::Result<()> {
-    print_line(rt, &[4], &[number as u64])
+    print_line(rt, &[Field::new(4, u64::from(number))])
 }
 
 // Prints the number that a client got, and how many bytes of a space of '.' changed.
 pub fn print_number(rt: &impl Print, number: u32, space: &[u8; MOST_BYTES]) -> io::Result<()> {
-    print_line(rt, &[4, 4], &[number as u64, changed(space) as u64])
+    print_line(
+        rt,
+        &[
+            Field::new(4, u64::from(number)),
+            Field::new(4, u64::from(changed(space))),
+        ],
+    )
 }

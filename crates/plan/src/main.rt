@@ -5,6 +5,7 @@
 
 ghost use Rattle.std.specs.Prelude.{◌≤◌, length, IfOk};
 
+use hexroom::Field;
 use std::io;
 use std::io::Read;
 
@@ -27,14 +28,13 @@ fn read_full(input: &mut impl Read, space: &mut [u8]) -> io::Result<usize>
 fn refuse(rt: &impl Print, answer: u32, place: u32) -> io::Result<()> {
     let mut space = [0u8; 11];
     let room: &mut [u8] = &mut space;
-    let widths = [1, 1, 2, 1];
-    let values = [
-        143,
-        (answer / 65536 % 256) as u64,
-        (answer % 65536) as u64,
-        (place % 256) as u64,
+    let fields = [
+        Field::byte(0x8F),
+        Field::byte((answer / 65536 % 256) as u8),
+        Field::new(2, u64::from(answer % 65536)),
+        Field::byte((place % 256) as u8),
     ];
-    hexroom::put_line(room, 0, &widths, &values, b"");
+    hexroom::put_line(room, 0, &fields, b"");
     rt.write_all(room)
 }
 

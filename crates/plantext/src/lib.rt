@@ -6,6 +6,7 @@ ghost use Rattle.hexline.specs.Digits.{line_of};
 ghost use Rattle.hexroom.specs.Room.{put as put_at};
 ghost use Rattle.plantext.specs.PlanText.{plan_header, cluster_line};
 
+use hexroom::Field;
 use model::wide;
 use site::Tag;
 
@@ -14,9 +15,13 @@ pub fn put_header(room: &mut [u8], order: u8, clusters: u8) -> usize
     requires { size (line_of (plan_header order clusters)) ≤ size room.old }
     ensures { (result ≡ size (line_of (plan_header order clusters))) × (room.new ≡ put_at room.old 0 (line_of (plan_header order clusters))) }
 {
-    let widths = [1, 1, 1, 1];
-    let values = [0x81, 1, order as u64, clusters as u64];
-    hexroom::put_line(room, 0, &widths, &values, b"")
+    let fields = [
+        Field::byte(0x81),
+        Field::byte(1),
+        Field::byte(order),
+        Field::byte(clusters),
+    ];
+    hexroom::put_line(room, 0, &fields, b"")
 }
 
 // Writes the line of a cluster at `at`, and gives the place behind it.
@@ -33,13 +38,12 @@ pub fn put_cluster(
 {
     let bytes = tag.bytes;
     let n = wide(tag.len);
-    let widths = [1, 1, 4, 4, 1];
-    let values = [
-        0x82,
-        cluster as u64,
-        start as u64,
-        portion as u64,
-        tag.len as u64,
+    let fields = [
+        Field::byte(0x82),
+        Field::byte(cluster),
+        Field::new(4, u64::from(start)),
+        Field::new(4, u64::from(portion)),
+        Field::byte(tag.len),
     ];
-    hexroom::put_line(room, at, &widths, &values, &bytes[..n])
+    hexroom::put_line(room, at, &fields, &bytes[..n])
 }

@@ -8,6 +8,7 @@ ghost use Rattle.hexroom.specs.Room.{put, handed};
 ghost use Rattle.records.specs.Check.{checked};
 ghost use Rattle.writer.specs.Text.{header_bytes, cluster_bytes, flow_bytes, text_of, fitting, written, room_after};
 
+use hexroom::Field;
 use site::{Cluster, Flow, NO_PLACE, Site, Verdict};
 
 // What the writer answers: how many bytes of the room the text fills, or the refusal.
@@ -32,9 +33,13 @@ fn put_header(room: &mut [u8], clusters: u8, flows: u8) -> usize
     requires { length (line_of (header_bytes clusters flows)) ≤ length room.old }
     ensures { (result ≡ length (line_of (header_bytes clusters flows))) × (room.new ≡ put room.old 0 (line_of (header_bytes clusters flows))) }
 {
-    let widths = [1, 1, 1, 1];
-    let values = [1, 1, clusters as u64, flows as u64];
-    hexroom::put_line(room, 0, &widths, &values, b"")
+    let fields = [
+        Field::byte(1),
+        Field::byte(1),
+        Field::byte(clusters),
+        Field::byte(flows),
+    ];
+    hexroom::put_line(room, 0, &fields, b"")
 }
 
 // Writes the line of a cluster at `at`, and gives the place behind it.
@@ -45,9 +50,13 @@ fn put_cluster(room: &mut [u8], at: usize, c: Cluster) -> usize
     let tag = c.tag;
     let bytes = tag.bytes;
     let n = tags::counted(tag.len);
-    let widths = [1, 1, 1, 1];
-    let values = [2, c.parent as u64, c.order as u64, tag.len as u64];
-    hexroom::put_line(room, at, &widths, &values, &bytes[..n])
+    let fields = [
+        Field::byte(2),
+        Field::byte(c.parent),
+        Field::byte(c.order),
+        Field::byte(tag.len),
+    ];
+    hexroom::put_line(room, at, &fields, &bytes[..n])
 }
 
 // Writes the line of a flow at `at`, and gives the place behind it.
@@ -55,15 +64,14 @@ fn put_flow(room: &mut [u8], at: usize, f: Flow) -> usize
     requires { at + length (line_of (flow_bytes f)) ≤ length room.old }
     ensures { (result ≡ at + length (line_of (flow_bytes f))) × (room.new ≡ put room.old at (line_of (flow_bytes f))) }
 {
-    let widths = [1, 1, 1, 4, 4];
-    let values = [
-        3,
-        f.source as u64,
-        f.sink as u64,
-        f.period as u64,
-        f.deadline as u64,
+    let fields = [
+        Field::byte(3),
+        Field::new(1, u64::from(f.source)),
+        Field::new(1, u64::from(f.sink)),
+        Field::new(4, u64::from(f.period)),
+        Field::new(4, u64::from(f.deadline)),
     ];
-    hexroom::put_line(room, at, &widths, &values, b"")
+    hexroom::put_line(room, at, &fields, b"")
 }
 
 // Writes the lines of the first n clusters at `at`, and gives the place behind them.

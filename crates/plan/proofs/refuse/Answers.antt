@@ -5,4 +5,4 @@ use Rattle.plan.proofs.refuse.Goals as goal
 
 pub put_line-requires : goal.put_line-requires
 unfolding line_of hexes field_bytes number_bytes
-put_line-requires g c = search rules
+put_line-requires g c = rw (c.byte.ensures, c.byte-2.ensures, c.new.ensures, c.byte-3.ensures) (search rules)

@@ -1,13 +1,12 @@
--- The values at their widths are the header's bytes, and nothing follows them.
-use mathlib.Core.Path.{refl}
+-- The fields are the header's bytes, and nothing follows them.
 use Rattle.hexline.specs.Digits.{hexes, number_bytes, field_bytes, line_of}
 use Rattle.plantext.specs.PlanText.{plan_header}
 use Rattle.plantext.proofs.put_header.Goals as goal
 
 pub put_line-requires : goal.put_line-requires
 unfolding plan_header field_bytes number_bytes line_of hexes
-put_line-requires c = (refl, c.requires)
+put_line-requires c = rw (c.byte.ensures, c.byte-2.ensures, c.byte-3.ensures, c.byte-4.ensures) c.requires
 
 pub returns : goal.returns
 unfolding plan_header field_bytes number_bytes line_of hexes
-returns c = c.put_line.ensures
+returns c = rw (c.byte.ensures, c.byte-2.ensures, c.byte-3.ensures, c.byte-4.ensures) at c.put_line.ensures
