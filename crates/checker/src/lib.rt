@@ -75,20 +75,21 @@ fn walk_lines(
         let rest = &plan[at..];
         let read = planlines::front_line(rest);
         match read {
-            PlanLine::Broken => return Walked::Broken,
-            PlanLine::Cluster {
-                number,
-                start,
-                length,
-                len,
-            } => {
+            None => return Walked::Broken,
+            Some(line) => {
+                let PlanLine {
+                    number,
+                    start,
+                    length,
+                    len,
+                } = line;
                 let begins = start as u64;
                 let ends = begins + length as u64;
                 let next = at + 23 + 2 * wide(len);
                 apart = apart & (until <= begins) & (ends <= interval);
                 if number < site.cluster_count {
                     let c = wide(number);
-                    let cluster = clusters[c];
+                    let cluster = &clusters[c];
                     let described = planlines::describes(cluster, rest, length, len);
                     if !described {
                         if !planlines::is_tag_whole(rest, len) {
@@ -156,8 +157,8 @@ pub fn check_accepted(site: Site, plan: &[u8]) -> Verdict
     let end = hexline::line_end(plan, 0);
     let header = planlines::header_line(&plan[..end], end < plan.len());
     match header {
-        PlanHeader::Broken => refused(20),
-        PlanHeader::Fields { order, clusters } => {
+        None => refused(20),
+        Some(PlanHeader { order, clusters }) => {
             check_lines(site, plan, end + 1, order, clusters)
         }
     }

@@ -3,7 +3,7 @@
 use Rattle.std.proofs.Math.Path.{◌≡◌, sym, ap}
 use Rattle.std.proofs.Common.{◌∙◌, true≢false, zero-add, arith, get_or-take}
 use Rattle.std.proofs.Math.Bool.{Bool, true, not}
-use Rattle.std.specs.Prelude.{false, List, [], ◌∷◌, ltb, eqb, take}
+use Rattle.std.specs.Prelude.{Some, None, false, List, [], ◌∷◌, ltb, eqb, take}
 use Rattle.std.proofs.Math.Logic.{inl, inr}
 use Prim.Native.Nat.{ℕ, ◌+◌, ◌*◌, ◌≤◌, ◌<◌}
 use Rattle.std.proofs.Math.Dec.{leb}
@@ -16,7 +16,7 @@ use Rattle.hexline.specs.DigitLaws.{below_digits, byte_taken, number_taken}
 use Rattle.hexline.specs.Lines.{line_length}
 use Rattle.hexline.specs.LineLaws.{first_row, none_of, line_within, line_ends, line_ended, line_passes}
 use Rattle.hexbytes.specs.Blocks.{every_join}
-use Rattle.planlines.specs.declared.PlanLine.TheVariants.{Broken, Cluster}
+use Rattle.planlines.specs.declared.PlanLine.{PlanLine}
 use Rattle.planlines.specs.PlanFront.{end_in, bad_front, front_in, tag_digits}
 use Rattle.planlines.specs.PlanLines.{bad_cluster}
 use Rattle.planlines.specs.PlanLineLaws.{KeptCluster, kept_cluster_lem, cluster_good}
@@ -47,11 +47,11 @@ module _ (rest : List ℕ) where
         ended = eqb-true (get_or rest (end_in rest) 0) 10 (not-false _ h.1.1.1.1.0);
       }
 
-  pub front_refused : (KeptFront rest → ⊥) → Broken ≡ front_in rest
+  pub front_refused : (KeptFront rest → ⊥) → None ≡ front_in rest
   unfolding front_in
   front_refused differs = elim (decide (bad_front rest)) [ inl e ↦ rw e | inr e ↦ absurd (differs (kept_front e)) ]
 
-  pub front_kept : KeptFront rest → Cluster (byte_at rest 1) (number_at rest 2 4) (number_at rest 6 4) (byte_at rest 10) ≡ front_in rest
+  pub front_kept : KeptFront rest → Some (record { number = byte_at rest 1; start = number_at rest 2 4; length = number_at rest 6 4; len = byte_at rest 10 }) ≡ front_in rest
   unfolding front_in bad_front
   front_kept k =
       simp (le-ltb (length rest) 22 k.long, k.digits, eq-eqb (byte_at rest 0) 130 k.kind, lt-leb (length rest) (end_in rest) k.inside, eq-eqb (get_or rest (end_in rest) 0) 10 k.ended)
@@ -105,26 +105,26 @@ module _ (rest : List ℕ) where
         }
 
   -- a line that is broken up to its tag or at its end breaks the layout
-  pub front_breaks : front_in rest ≡ Broken → bad_cluster (first_row rest) ≡ true
+  pub front_breaks : front_in rest ≡ None → bad_cluster (first_row rest) ≡ true
   front_breaks e = elim (decide (bad_cluster (first_row rest))) [
     | inl b ↦ b
-    | inr b ↦ absurd (let says = front_kept (row_asked b).0 ∙ e in let z : ◌≡◌ {A = ℕ} 0 1 = cc in omega arith)
+    | inr b ↦ absurd (let says = front_kept (row_asked b).0 ∙ e in cc)
   ]
 
-  module _ (number start len tag : ℕ) (e : front_in rest ≡ Cluster number start len tag) where
+  module _ (number start len tag : ℕ) (e : front_in rest ≡ Some (record { number = number; start = start; length = len; len = tag })) where
     asked : KeptFront rest
     unfolding front_in
     asked = elim (decide (bad_front rest)) [
-      | inl b ↦ absurd (let no : Broken ≡ Cluster number start len tag = rw b at e in let z : ◌≡◌ {A = ℕ} 0 1 = cc in omega arith)
+      | inl b ↦ absurd (let no = rw b at e in cc)
       | inr b ↦ kept_front b
     ]
 
     -- the fields of another are the text's, and its tag and the LF are within the text
     pub front_fits : (22 + 2 * tag < length rest) × (number ≡ byte_at rest 1) × (start ≡ number_at rest 2 4) × (len ≡ number_at rest 6 4) × (tag ≡ byte_at rest 10)
     front_fits =
-        let says = front_kept asked ∙ e in
-        let t : tag ≡ byte_at rest 10 = cc in
-        (omega (arith, asked.inside), cc, cc, cc, t)
+        let same : ◌≡◌ {A = PlanLine} (record { number = number; start = start; length = len; len = tag }) (record { number = byte_at rest 1; start = number_at rest 2 4; length = number_at rest 6 4; len = byte_at rest 10 }) = let says = front_kept asked ∙ e in cc in
+        let t : tag ≡ byte_at rest 10 = ap (λ (l : PlanLine). l.len) same in
+        (omega (arith, asked.inside), ap (λ (l : PlanLine). l.number) same, ap (λ (l : PlanLine). l.start) same, ap (λ (l : PlanLine). l.length) same, t)
 
     -- with a tag of digits it says what the first row says, which ends behind the tag
     pub front_says : tag_digits rest tag ≡ true → LineSays (first_row rest) number start len tag × (line_length rest ≡ 22 + 2 * tag)

@@ -1,11 +1,15 @@
 -- How a line of a plan is read without a search for its end: a line that keeps the layout ends where its tag length says, with an LF there. It is read up to its tag first; whether the
 -- tag has digits only is asked apart. `FrontLaws` says that this comes to what `PlanLines` says of the line.
-use Rattle.std.specs.Prelude.{Bool, cond, not, ◌&&◌, List, [], ◌∷◌, ℕ, ◌+◌, ◌*◌, ◌/◌, ◌%◌, leb, ltb, eqb, length, get_or}
+use Rattle.std.specs.Prelude.{◌≡◌, true, ◌≤◌, Option, Some, None, Bool, cond, not, ◌&&◌, List, [], ◌∷◌, ℕ, ◌+◌, ◌*◌, ◌/◌, ◌%◌, leb, ltb, eqb, length, get_or}
 use Rattle.hexline.specs.Digits.{is_digit, byte_at, number_at, hex_of}
 use Rattle.hexline.specs.Lines.{any_of}
 use Rattle.hexline.specs.Loops.{every}
 use Rattle.planlines.specs.declared.PlanLine.{PlanLine}
-use Rattle.planlines.specs.declared.PlanLine.TheVariants.{Broken, Cluster}
+
+-- the first 22 characters of a text are digits
+pub record BeginsWhole (rest : List ℕ) : Type 0 where
+  pub long : 22 ≤ length rest
+  pub digits : every 22 (λ i. is_digit (get_or rest i 0)) ≡ true
 
 -- where a line that keeps the layout ends, by its tag length
 abbrev pub end_in : List ℕ → ℕ
@@ -22,9 +26,9 @@ bad_front rest =
     ∷ not (eqb (get_or rest (end_in rest) 0) 10)
     ∷ [])
 
--- what it says, but for its tag
-unfoldable pub front_in : List ℕ → PlanLine
-front_in rest = cond (bad_front rest) Broken (Cluster (byte_at rest 1) (number_at rest 2 4) (number_at rest 6 4) (byte_at rest 10))
+-- what it says, but for its tag; none if it breaks the layout there
+unfoldable pub front_in : List ℕ → Option PlanLine
+front_in rest = cond (bad_front rest) None (Some (record { number = byte_at rest 1; start = number_at rest 2 4; length = number_at rest 6 4; len = byte_at rest 10 }))
 
 -- its tag of n bytes has digits only
 unfoldable pub tag_digits : List ℕ → ℕ → Bool

@@ -1,5 +1,5 @@
 -- Laws of the lines of a plan: what a reader asks of a line, test by test, is what the layout asks.
-use Rattle.std.specs.Prelude.{◌≡◌, true, eqb, get_or}
+use Rattle.std.specs.Prelude.{◌≡◌, true, eqb, get_or, Some, None}
 use Rattle.std.proofs.Common.{◌∙◌, arith}
 use Rattle.std.proofs.Math.Bool.{false, not}
 use mathlib.Core.List.{List, [], ◌∷◌}
@@ -13,7 +13,6 @@ use Rattle.hexline.specs.Digits.{is_digit, all_digits, byte_at}
 use Rattle.hexline.specs.Lines.{Row, malformed}
 use Rattle.hexline.specs.LineLaws.{none_of, well_formed, malformed_bytes}
 use Rattle.site.specs.Lines.{size}
-use Rattle.planlines.specs.declared.PlanHeader.TheVariants.{Broken, Fields}
 use Rattle.planlines.specs.PlanLines.{not_whole, bad_header, bad_cluster, header_in, tag_length}
 
 -- what is asked of the first line
@@ -41,7 +40,7 @@ module _ (r : Row) where
         version = eqb-true (byte_at l 1) 1 (not-false _ h.1.1.0);
       }
 
-  pub header_refused : (KeptHeader r → ⊥) → Broken ≡ header_in r
+  pub header_refused : (KeptHeader r → ⊥) → None ≡ header_in r
   unfolding header_in
   header_refused differs = elim (decide (bad_header r)) [ inl e ↦ rw e | inr e ↦ absurd (differs (kept_header e)) ]
 
@@ -49,7 +48,7 @@ module _ (r : Row) where
   unfolding all_digits
   all_digits_lem k = rw k.long k.digits
 
-  pub header_kept : KeptHeader r → Fields (byte_at r.chars 2) (byte_at r.chars 3) ≡ header_in r
+  pub header_kept : KeptHeader r → Some (record { order = byte_at r.chars 2; clusters = byte_at r.chars 3 }) ≡ header_in r
   unfolding header_in bad_header not_whole size
   header_kept k =
       let l : List ℕ = r.chars in

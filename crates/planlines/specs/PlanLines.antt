@@ -1,5 +1,5 @@
 -- docs/FORMATS.md, "Plan text" and "Checking a plan": which lines break the layout of a plan text, 20 (request 2026-02), and what those say that do not.
-use Rattle.std.specs.Prelude.{Bool, cond, not, ◌&&◌, List, [], ◌∷◌, ℕ, ◌+◌, ltb, eqb, length}
+use Rattle.std.specs.Prelude.{Option, Some, None, Bool, cond, not, ◌&&◌, List, [], ◌∷◌, ℕ, ◌+◌, ltb, eqb, length}
 use Rattle.hexline.specs.Digits.{byte_at, number_at}
 use Rattle.hexline.specs.Lines.{Row, any_of, malformed}
 use Rattle.model.specs.Orders.{portion}
@@ -7,7 +7,6 @@ use Rattle.site.specs.declared.Cluster.{Cluster}
 use Rattle.site.specs.Lines.{size, tag_at}
 use Rattle.site.specs.Records.{same_tag}
 use Rattle.planlines.specs.declared.PlanHeader.{PlanHeader}
-use Rattle.planlines.specs.declared.PlanHeader.TheVariants.{Broken, Fields}
 
 -- no digits, an odd number of them, another character, or the text ends inside the line; a line of a plan may have any length
 unfoldable pub not_whole : Row → Bool
@@ -23,9 +22,9 @@ bad_cluster r =
     let l : List ℕ = r.chars in
     any_of (not_whole r ∷ not (eqb (byte_at l 0) 130) ∷ ltb (size l) 11 ∷ not (eqb (size l) (11 + byte_at l 10)) ∷ [])
 
--- what the first line says: the beacon order and the number of clusters
-unfoldable pub header_in : Row → PlanHeader
-header_in r = cond (bad_header r) Broken (Fields (byte_at r.chars 2) (byte_at r.chars 3))
+-- what the first line says: the beacon order and the number of clusters; none if it breaks the layout
+unfoldable pub header_in : Row → Option PlanHeader
+header_in r = cond (bad_header r) None (Some (record { order = byte_at r.chars 2; clusters = byte_at r.chars 3 }))
 
 -- what a line of a cluster says: its number, its start and its length in symbols, and how long its tag is
 abbrev pub cluster_number : List ℕ → ℕ

@@ -1,12 +1,12 @@
 -- What an answer of the line readers says of the line, and whose start a line that keeps the layout gives.
 use Rattle.std.proofs.Math.Path.{◌≡◌}
-use Rattle.std.specs.Prelude.{refl, true, false, List, ◌∷◌, ◌≢◌, ℕ, ◌+◌, ◌*◌, length}
-use Rattle.std.proofs.Common.{sym, arith, eq-eqb, ne_eqb}
+use Rattle.std.specs.Prelude.{refl, Some, None, true, false, List, ◌∷◌, ◌≢◌, ℕ, ◌+◌, ◌*◌, length}
+use Rattle.std.proofs.Common.{sym, ap, eq-eqb, ne_eqb}
 use Rattle.std.proofs.Math.Logic.{inl, inr}
 use Rattle.hexline.specs.Digits.{byte_at}
 use Rattle.hexline.specs.Loops.{decide}
 use Rattle.hexline.specs.Lines.{Row}
-use Rattle.planlines.specs.declared.PlanHeader.TheVariants.{Broken, Fields}
+use Rattle.planlines.specs.declared.PlanHeader.{PlanHeader}
 use Rattle.planlines.specs.PlanLines.{bad_header, bad_cluster, header_in, cluster_number, cluster_start, cluster_length, tag_length}
 use Rattle.planlines.specs.PlanLineLaws.{kept_cluster_lem}
 use Rattle.planlines.specs.PlanRead.{start_among}
@@ -30,18 +30,19 @@ module _ (r : Row) where
   abbrev l : List ℕ
   l = r.chars
 
-  pub header_breaks : header_in r ≡ Broken → bad_header r ≡ true
+  pub header_breaks : header_in r ≡ None → bad_header r ≡ true
   unfolding header_in
   header_breaks e = elim (decide (bad_header r)) [
     | inl b ↦ b
-    | inr b ↦ absurd (let no : Fields (byte_at l 2) (byte_at l 3) ≡ Broken = rw b at e in let z : ◌≡◌ {A = ℕ} 0 1 = cc in omega arith)
+    | inr b ↦ absurd (let no = rw b at e in cc)
   ]
 
-  pub header_says : (order clusters : ℕ) → header_in r ≡ Fields order clusters → HeaderSays r order clusters
+  pub header_says : (order clusters : ℕ) → header_in r ≡ Some (record { order = order; clusters = clusters }) → HeaderSays r order clusters
   unfolding header_in
   header_says order clusters e = elim (decide (bad_header r)) [
-    | inl b ↦ absurd (let no : Broken ≡ Fields order clusters = rw b at e in let z : ◌≡◌ {A = ℕ} 0 1 = cc in omega arith)
-    | inr b ↦ let is : Fields (byte_at l 2) (byte_at l 3) ≡ Fields order clusters = rw b at e in record { formed = b; ordered = cc; counted = cc }
+    | inl b ↦ absurd (let no = rw b at e in cc)
+    | inr b ↦ let same : ◌≡◌ {A = PlanHeader} (record { order = byte_at l 2; clusters = byte_at l 3 }) (record { order = order; clusters = clusters }) = let is = rw b at e in cc in
+        record { formed = b; ordered = ap (λ (h : PlanHeader). h.order) same; counted = ap (λ (h : PlanHeader). h.clusters) same }
   ]
 
   -- a line that keeps the layout gives the start of its cluster, and of no other

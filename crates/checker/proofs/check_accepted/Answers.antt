@@ -45,12 +45,12 @@ slice_bounds-header_line-end c = sym (length-take-le (end (goal.at.slice_bounds-
 pub overflow_add-end : goal.overflow_add-end
 overflow_add-end c = omega (arith, inside (goal.at.overflow_add-end c).After-line_end-end)
 
-pub returns-in-Broken : goal.returns-in-Broken
-returns-in-Broken c = let ended = (goal.at.returns-in-Broken c).After-line_end-end in
-    let breaks = header_breaks (header ended) (sym c.header_line-header.ensures ∙ c.in-Broken.is) in
-    rw (first ended) (c.refused-in-Broken.ensures ∙ sym (header_broken _ (header ended) _ breaks))
+pub returns-in-None : goal.returns-in-None
+returns-in-None c = let ended = (goal.at.returns-in-None c).After-line_end-end in
+    let breaks = header_breaks (header ended) (sym c.header_line-header.ensures ∙ c.in-None.is) in
+    rw (first ended) (c.refused-in-None.ensures ∙ sym (header_broken _ (header ended) _ breaks))
 
-pub returns-in-Fields : goal.returns-in-Fields
-returns-in-Fields c = let ended = (goal.at.returns-in-Fields c).After-line_end-end in
-    let says = header_says (header ended) _ _ (sym c.header_line-header.ensures ∙ c.in-Fields.is) in
+pub returns-in-Some : goal.returns-in-Some
+returns-in-Some c = let ended = (goal.at.returns-in-Some c).After-line_end-end in
+    let says = header_says (header ended) _ _ (sym c.header_line-header.ensures ∙ c.in-Some.is) in
     rw (first ended) (c.check_lines.ensures (header ended) says)

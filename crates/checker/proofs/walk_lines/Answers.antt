@@ -2,6 +2,7 @@
 -- where the tag is the cluster's, and asked where it is not.
 use mathlib.Core.Path.{◌≡◌, sym, ap, ◌∙◌}
 use mathlib.Core.Bool.{true, false}
+use Rattle.std.specs.Prelude.{Some, None}
 use mathlib.Core.List.{List, ◌∷◌}
 use Prim.Native.Nat.{ℕ, suc, ◌+◌, ◌-◌, ◌*◌, ◌≤◌, ◌<◌}
 use native.Mathlib.Omega.{arith}
@@ -12,7 +13,7 @@ use Rattle.hexline.specs.Lines.{Row, rows, line_length}
 use Rattle.hexline.specs.LineLaws.{first_row, rows_first, part_to_end, rows_none}
 use Rattle.site.specs.declared.Site.{Site}
 use Rattle.records.specs.Checked.{Unrefused, checked_unrefused, counts_in, site_cluster_in}
-use Rattle.planlines.specs.declared.PlanLine.TheVariants.{Broken, Cluster as ClusterFields}
+use Rattle.planlines.specs.declared.PlanLine.{PlanLine}
 use Rattle.planlines.specs.FrontLaws.{front_breaks, front_fits, front_says, front_not}
 use Rattle.planlines.specs.PlanFront.{front_in, tag_digits}
 use Rattle.planlines.specs.PlanLines.{bad_cluster}
@@ -56,7 +57,7 @@ module _ (turn : After-front_line-read) where
   read : turn.front_line-read.result ≡ front_in rest
   read = turn.front_line-read.ensures ∙ ap front_in (part_to_end plan at)
 
-  breaks : turn.front_line-read.result ≡ Broken → bad_cluster row ≡ true
+  breaks : turn.front_line-read.result ≡ None → bad_cluster row ≡ true
   breaks e = front_breaks rest (sym read ∙ e)
 
   abbrev Before : Type 0
@@ -70,20 +71,20 @@ module _ (turn : After-front_line-read) where
   passing = rw (rows_first rest (omega (arith, rest_length, running))) at turn.loop-at.invariant
 
   -- the line up to its tag keeps the layout
-  module _ {number start len tag : ℕ} (e : turn.front_line-read.result ≡ ClusterFields number start len tag) where
-    fits : (22 + 2 * tag < length rest) × (number ≡ byte_at rest 1) × (start ≡ number_at rest 2 4) × (len ≡ number_at rest 6 4) × (tag ≡ byte_at rest 10)
-    fits = front_fits rest number start len tag (sym read ∙ e)
+  module _ {line : PlanLine} (e : turn.front_line-read.result ≡ Some line) where
+    fits : (22 + 2 * line.len < length rest) × (line.number ≡ byte_at rest 1) × (line.start ≡ number_at rest 2 4) × (line.length ≡ number_at rest 6 4) × (line.len ≡ byte_at rest 10)
+    fits = front_fits rest line.number line.start line.length line.len (sym read ∙ e)
 
-    not_whole : tag_digits rest tag ≡ false → bad_cluster row ≡ true
-    not_whole other = front_not rest number start len tag (sym read ∙ e) other
+    not_whole : tag_digits rest line.len ≡ false → bad_cluster row ≡ true
+    not_whole other = front_not rest line.number line.start line.length line.len (sym read ∙ e) other
 
     -- and so does its tag: what the line says, where the next one begins, how long it is, and that of its tag
-    taken : tag_digits rest tag ≡ true
-        → LineSays row number start len tag × (drop (suc (line_length rest)) rest ≡ drop (at + 23 + 2 * tag) plan) × (line_length rest ≡ 22 + 2 * tag) × (tag_digits rest tag ≡ true)
+    taken : tag_digits rest line.len ≡ true
+        → LineSays row line.number line.start line.length line.len × (drop (suc (line_length rest)) rest ≡ drop (at + 23 + 2 * line.len) plan) × (line_length rest ≡ 22 + 2 * line.len) × (tag_digits rest line.len ≡ true)
     taken tagged =
-        let line = front_says rest number start len tag (sym read ∙ e) tagged in
-        let far : at + suc (line_length rest) ≡ at + 23 + 2 * tag = omega (arith, line.1) in
-        (line.0, drop-drop (suc (line_length rest)) at plan ∙ ap (λ (k : ℕ). drop k plan) far, line.1, tagged)
+        let says = front_says rest line.number line.start line.length line.len (sym read ∙ e) tagged in
+        let far : at + suc (line_length rest) ≡ at + 23 + 2 * line.len = omega (arith, says.1) in
+        (says.0, drop-drop (suc (line_length rest)) at plan ∙ ap (λ (k : ℕ). drop k plan) far, says.1, tagged)
 
 -- the line's cluster is one of the site's, and so one of 64
 known : (c : After-wide-c) → (c.wide-c.result < c.args.site.cluster_count) × (c.wide-c.result < 64)
@@ -94,16 +95,16 @@ known c =
 pub loop-at-init : goal.loop-at-init
 loop-at-init c = passing_start c.args.site c.args.interval _ c.args.starts.now c.requires.1 (counts_in c.args.site (checked_unrefused c.args.site c.requires.0)).clusters
 
-pub returns-in-Broken : goal.returns-in-Broken
-returns-in-Broken c = let turn = (goal.at.returns-in-Broken c).After-front_line-read in
-    passing_broken _ _ _ (row turn) _ _ _ _ _ _ _ (passing turn) (breaks turn c.in-Broken.is) _
+pub returns-in-None : goal.returns-in-None
+returns-in-None c = let turn = (goal.at.returns-in-None c).After-front_line-read in
+    passing_broken _ _ _ (row turn) _ _ _ _ _ _ _ (passing turn) (breaks turn c.in-None.is) _
 
 pub bounds-clusters-c : goal.bounds-clusters-c
 bounds-clusters-c c = omega (arith, known (goal.at.bounds-clusters-c c).After-wide-c)
 
 pub describes-described-requires : goal.describes-described-requires
 describes-described-requires c = let turn = (goal.at.describes-described-requires c).After-front_line-read in
-    let here = fits turn c.in-Cluster.is in
+    let here = fits turn c.in-Some.is in
     let within = site_cluster_in (site turn) (unrefused turn) c.wide-c.result (known (goal.at.describes-described-requires c).After-wide-c).0 in
     rw (part_to_end (plan turn) (at turn)) (record {
       order_le_largest = (within.order, within.short, λ i l. omega (arith, within.printable i l));
@@ -112,11 +113,11 @@ describes-described-requires c = let turn = (goal.at.describes-described-require
 
 pub is_tag_whole-requires : goal.is_tag_whole-requires
 is_tag_whole-requires c = let turn = (goal.at.is_tag_whole-requires c).After-front_line-read in
-    rw (part_to_end (plan turn) (at turn)) (omega (arith, (fits turn c.in-Cluster.is).0))
+    rw (part_to_end (plan turn) (at turn)) (omega (arith, (fits turn c.in-Some.is).0))
 
 pub returns-then-not-is_tag_whole : goal.returns-then-not-is_tag_whole
 returns-then-not-is_tag_whole c = let turn = (goal.at.returns-then-not-is_tag_whole c).After-front_line-read in
-    let line = c.in-Cluster.is in
+    let line = c.in-Some.is in
     let asked = rw (part_to_end (plan turn) (at turn)) at c.is_tag_whole.ensures in
     passing_broken _ _ _ (row turn) _ _ _ _ _ _ _ (passing turn) (not_whole turn line (sym asked ∙ c.if-not-is_tag_whole.true)) _
 
@@ -131,18 +132,18 @@ bounds-starts-c c = omega (arith, known (goal.at.bounds-starts-c c).After-wide-c
 
 pub is_tag_whole-requires-else-number-site : goal.is_tag_whole-requires-else-number-site
 is_tag_whole-requires-else-number-site c = let turn = (goal.at.is_tag_whole-requires-else-number-site c).After-front_line-read in
-    rw (part_to_end (plan turn) (at turn)) (omega (arith, (fits turn c.in-Cluster.is).0))
+    rw (part_to_end (plan turn) (at turn)) (omega (arith, (fits turn c.in-Some.is).0))
 
 pub returns-then-not-is_tag_whole-2 : goal.returns-then-not-is_tag_whole-2
 returns-then-not-is_tag_whole-2 c = let turn = (goal.at.returns-then-not-is_tag_whole-2 c).After-front_line-read in
     let asked = rw (part_to_end (plan turn) (at turn)) at c.is_tag_whole-else-number-site.ensures in
-    passing_broken _ _ _ (row turn) _ _ _ _ _ _ _ (passing turn) (not_whole turn c.in-Cluster.is (sym asked ∙ c.if-not-is_tag_whole-2.true)) _
+    passing_broken _ _ _ (row turn) _ _ _ _ _ _ _ (passing turn) (not_whole turn c.in-Some.is (sym asked ∙ c.if-not-is_tag_whole-2.true)) _
 
 pub loop-at-preserved-after-not-described : goal.loop-at-preserved-after-not-described
 loop-at-preserved-after-not-described c = let turn = (goal.at.loop-at-preserved-after-not-described c).After-front_line-read in
     let part = part_to_end (plan turn) (at turn) in
     let number = c.wide-c.ensures.0 in
-    let line = taken turn c.in-Cluster.is (elim c.if-not-described.branch [
+    let line = taken turn c.in-Some.is (elim c.if-not-described.branch [
       | then-not-described+else-not-is_tag_whole w ↦ sym (rw part at w.is_tag_whole.ensures) ∙ w.if-not-is_tag_whole.false
       | else-not-described w ↦ (and_both _ _ (sym (rw part at c.describes-described.ensures) ∙ w.if-not-described.false)).0
     ]) in
@@ -152,7 +153,7 @@ loop-at-preserved-after-not-described c = let turn = (goal.at.loop-at-preserved-
 
 pub loop-at-preserved : goal.loop-at-preserved
 loop-at-preserved c = let turn = (goal.at.loop-at-preserved c).After-front_line-read in
-    let line = c.in-Cluster.is in
+    let line = c.in-Some.is in
     let asked = rw (part_to_end (plan turn) (at turn)) at c.is_tag_whole-else-number-site.ensures in
     let taken_line = taken turn line (sym asked ∙ c.if-not-is_tag_whole-2.false) in
     rw (c.wide.ensures.0, ← taken_line.1)

@@ -5,4 +5,4 @@ use Rattle.planlines.proofs.is_tag_whole.Goals as goal
 
 pub returns : goal.returns
 unfolding tag_digits
-returns c = c.are_digits.ensures ∙ simp c.wide.ensures.0
+returns c = c.are_digits.ensures ∙ simp c.from.ensures
