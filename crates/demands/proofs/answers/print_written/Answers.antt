@@ -1,8 +1,0 @@
--- The line that it prints of a length has five bytes.
-use Rattle.std.proofs.Common.{arith}
-use Rattle.hexline.specs.Digits.{number_bytes, field_bytes}
-use Rattle.demands.proofs.answers.print_written.Goals as goal
-
-pub print_line-requires : goal.print_line-requires
-unfolding field_bytes number_bytes
-print_line-requires g c = rw (c.byte.ensures, c.new.ensures) (omega arith)
