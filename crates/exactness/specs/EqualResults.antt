@@ -2,7 +2,7 @@
 -- the result is d, or that the result is d and the room is e, with d and e made of the arguments alone, so each line here is an instance of one of two laws.
 -- A part of a text that is shown is a place in memory and its bytes; these are equal, and nothing else of it can be looked at. The exceptions,
 -- which docs/PROMISES.md explains, are functions that fill arrays of inner functions' own and leave some of them open (relaxing::settle, hexbytes::is_malformed, site::line_entry, figures::figures_of, this one also its period).
-use Rattle.std.specs.Prelude.{◌≡◌, Bool, false, not, ◌&&◌, List, [], ◌∷◌, ◌++◌, ℕ, ◌+◌, ◌-◌, ◌*◌, ◌/◌, ◌<◌, min, length, get_or, take, drop, replicate}
+use Rattle.std.specs.Prelude.{◌≡◌, Bool, false, not, ◌&&◌, Result, List, [], ◌∷◌, ◌++◌, ℕ, ◌+◌, ◌-◌, ◌*◌, ◌/◌, ◌<◌, min, length, get_or, take, drop, replicate}
 use Rattle.std.proofs.Common.{sym, ◌∙◌}
 use Rattle.std.specs.Borrow.{Bor}
 use Rattle.hexline.specs.Digits.{is_digit as is_digit_of, digit, hex_of, byte_at, number_at, hexes, number_bytes, field_bytes, line_of}
@@ -16,10 +16,12 @@ use Rattle.model.specs.Orders.{portion, interval, length_at, permitted}
 use Rattle.model.specs.Plans.{plan as plan_of}
 use Rattle.model.specs.Trees.{depth, top as top_of}
 use Rattle.tree.specs.Lineage.{lineage, Lineages}
+use Rattle.constraints.specs.declared.Links.{Links}
 use Rattle.constraints.specs.Entries.{blank, site_entries, limits_of}
+use Rattle.constraints.specs.Links.{entries_of}
 use Rattle.model.specs.Sites as model
 use Rattle.search.specs.declared.Figures.{Figures}
-use Rattle.search.specs.declared.Found.{Found}
+use Rattle.search.specs.declared.NoPlan.{NoPlan}
 use Rattle.search.specs.Deciding.{searched_once}
 use Rattle.search.specs.Posed.{Posed, Searched}
 use Rattle.sequence.specs.Holding.{in_order, Sequenced}
@@ -112,9 +114,10 @@ pub record EqualResults : Type 0 where
       → ((parent : ℕ → ℕ) → Lineages parent sets → r₁ ≡ top_of parent a b) → ((parent : ℕ → ℕ) → Lineages parent sets → r₂ ≡ top_of parent a b) → r₁ ≡ r₂
   pub limit_flows : (descents deadlines : List ℕ) (order : ℕ) → OneResult (limits_of descents deadlines (interval order))
   pub allowed : (deadline order : ℕ) → OneResult (deadline / interval order - 1)
+  pub links_len : (links : Links) → OneResult (length (entries_of links))
   pub constraint_at : (place : ℕ) (parents sources sinks limits : List ℕ) → OneResult (get_or (site_entries parents sources sinks limits) place blank)
   pub sequence : (size : ℕ) (parent N : ℕ → ℕ) (room room₁ room₂ : List ℕ) (r₁ r₂ : ℕ) → Sequenced size parent N room room₁ r₁ → Sequenced size parent N room room₂ r₂ → (r₁ ≡ r₂) × (room₁ ≡ room₂)
-  pub search : (figures : Figures) (before counts₁ counts₂ : List ℕ) (r₁ r₂ : Found) → ((s : model.Site) × Posed s figures)
+  pub search : (figures : Figures) (before counts₁ counts₂ : List ℕ) (r₁ r₂ : Result ℕ NoPlan) → ((s : model.Site) × Posed s figures)
       → ((s : model.Site) → Posed s figures → Searched s r₁ before counts₁) → ((s : model.Site) → Posed s figures → Searched s r₂ before counts₂) → (r₁ ≡ r₂) × (counts₁ ≡ counts₂)
   pub figures_of : (s : Site) (r₁ r₂ : Figures) → Posed (site_of s) r₁ → Posed (site_of s) r₂ → SameFigures r₁ r₂
   -- the writer and the planner, with the room that they were lent
@@ -184,6 +187,7 @@ results_are_equal = record {
   top = λ sets a b r₁ r₂ w p q. equal_results (top_of w.0 a b) r₁ r₂ (p w.0 w.1) (q w.0 w.1);
   limit_flows = λ descents deadlines order. equal_results (limits_of descents deadlines (interval order));
   allowed = λ deadline order. equal_results (deadline / interval order - 1);
+  links_len = λ links. equal_results (length (entries_of links));
   constraint_at = λ place parents sources sinks limits. equal_results (get_or (site_entries parents sources sinks limits) place blank);
   sequence = λ size parent N room room₁ room₂ r₁ r₂ p q. let placed = in_order size parent N in
       equal_results_in_room (length placed) (placed ++ drop (length placed) room) r₁ r₂ room₁ room₂ (p.number, sequenced_room size parent N room room₁ r₁ p) (q.number, sequenced_room size parent N room room₂ r₂ q);

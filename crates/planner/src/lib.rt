@@ -12,7 +12,7 @@ ghost use Rattle.planner.specs.Answers.{outcome_answer, outcome_room, answer, ro
 ghost use Rattle.planner.specs.Schedules.{Scheduled};
 
 use model::{Order, wide};
-use search::{Figures, Found};
+use search::{Figures, NoPlan};
 use site::{NO_PLACE, Site, Verdict};
 
 // What the planner answers: how many bytes of the room the plan text fills and the beacon order, or
@@ -34,19 +34,18 @@ enum Schedule {
 
 // The order of the plan of the site that the figures describe; the first entries of `placed` are
 // then the clusters in order of start.
-fn place_clusters(figures: Figures, placed: &mut [u8]) -> Schedule
-    requires { (length placed.old ≡ figures.cluster_count) × ((s : Described) × Posed s figures) }
-    ensures { (s : Described) → Posed s figures → Scheduled s result placed.new }
+fn place_clusters(figures: &Figures, placed: &mut [u8]) -> Schedule
+    requires { (length placed.old ≡ figures.now.cluster_count) × ((s : Described) × Posed s figures.now) }
+    ensures { (s : Described) → Posed s figures.now → Scheduled s result placed.new }
 {
     let n = figures.cluster_count;
     let mut counts = [0; 64];
     let found = search::search(figures, &mut counts[..n]);
     match found {
-        Found::NoFit => Schedule::NoFit,
-        Found::NoPlacing => Schedule::NoPlacing,
-        Found::Order(order) => {
-            let parents = figures.parents;
-            let count = sequence::sequence(&parents[..n], &counts[..n], placed);
+        Err(NoPlan::NoFit) => Schedule::NoFit,
+        Err(NoPlan::NoPlacing) => Schedule::NoPlacing,
+        Ok(order) => {
+            let count = sequence::sequence(&figures.parents[..n], &counts[..n], placed);
             Schedule::Made { order, count }
         }
     }
@@ -84,7 +83,7 @@ pub fn plan_accepted(site: Site, room: &mut [u8]) -> Planned
         size += 23 + 2 * wide(cluster.tag.len);
         i += 1;
     }
-    let schedule = place_clusters(figures::figures_of(site, parents, total), &mut placed[..n]);
+    let schedule = place_clusters(&figures::figures_of(site, parents, total), &mut placed[..n]);
     match schedule {
         Schedule::NoFit => refused(7, 0, NO_PLACE),
         Schedule::NoPlacing => refused(8, 0, NO_PLACE),

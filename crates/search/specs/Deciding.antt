@@ -1,5 +1,5 @@
 -- What decides the plan of a site: the eligible orders are those between the first and the last, and the largest of them that has a solution is the plan's.
-use Rattle.std.specs.Prelude.{◌≡◌, false, ◌&&◌, List, [], ◌∷◌, ℕ, ◌+◌, ◌-◌, ◌≤◌, ◌<◌, leb, ltb}
+use Rattle.std.specs.Prelude.{◌≡◌, false, ◌&&◌, Result, Ok, Err, List, [], ◌∷◌, ℕ, ◌+◌, ◌-◌, ◌≤◌, ◌<◌, leb, ltb}
 use Rattle.std.proofs.Math.Path.{refl, sym}
 use Rattle.std.proofs.Common.{ap, ◌∙◌, true≢false, arith}
 use Rattle.std.proofs.Math.Bool.{true}
@@ -11,13 +11,13 @@ use Rattle.model.specs.CountingLaws.{passes_or_fails, and_both}
 use Rattle.model.specs.Orders.{largest, interval, is_order, within_all, permitted}
 use Rattle.model.specs.Plans.{fits, candidate, Outcome, planned, no_fit, no_placing, plan}
 use Rattle.model.specs.Relaxing.{solve}
-use Rattle.model.specs.SearchResult.{Unsolved, LargestSolved, Result, plan_result}
+use Rattle.model.specs.SearchResult.{Unsolved, LargestSolved, Result as IsResult, plan_result}
 use Rattle.model.specs.Sequences.{sequence}
 use Rattle.model.specs.Sites.{Site, Sound}
 use Rattle.search.specs.Monotone.{interval_grows, unsolved_at_larger}
 use Rattle.search.specs.declared.Figures.{Figures}
-use Rattle.search.specs.declared.Found.{Found}
-use Rattle.search.specs.declared.Found.TheVariants.{Order, NoFit, NoPlacing}
+use Rattle.search.specs.declared.NoPlan.{NoPlan}
+use Rattle.search.specs.declared.NoPlan.TheVariants.{NoFit, NoPlacing}
 use Rattle.search.specs.Posed.{Posed, eligible, Ending, Starting, counts_after, Parted, found_as, found_counts, Searched}
 
 -- ## A plan from what is known of every order
@@ -36,7 +36,7 @@ module _ (s : Site) where
         ]
       ]
 
-      from_result : (r : Outcome) → Result s r → r ≡ planned order (sequence s (at d))
+      from_result : (r : Outcome) → IsResult s r → r ≡ planned order (sequence s (at d))
       from_result (planned o l) f = let q = same_order o l f in cc
       from_result no_fit f = absurd (true≢false (sym c ∙ f order))
       from_result no_placing f = let n = f.1 order c in let z : ◌≡◌ {A = ℕ} 0 1 = cc in absurd (omega arith)
@@ -44,7 +44,7 @@ module _ (s : Site) where
   pub plan_unsolved : (order : ℕ) → candidate s order ≡ true → ((order : ℕ) → Unsolved s order) → plan s ≡ no_placing
   plan_unsolved order c u = from_result (plan s) (plan_result s)
     where
-      from_result : (r : Outcome) → Result s r → r ≡ no_placing
+      from_result : (r : Outcome) → IsResult s r → r ≡ no_placing
       from_result (planned o l) f = let n = u o f.is_candidate_lem in let z : ◌≡◌ {A = ℕ} 0 1 = cc in absurd (omega arith)
       from_result no_fit f = absurd (true≢false (sym c ∙ f order))
       from_result no_placing f = refl
@@ -52,7 +52,7 @@ module _ (s : Site) where
   pub plan_unfitted : ((order : ℕ) → candidate s order ≡ false) → plan s ≡ no_fit
   plan_unfitted u = from_result (plan s) (plan_result s)
     where
-      from_result : (r : Outcome) → Result s r → r ≡ no_fit
+      from_result : (r : Outcome) → IsResult s r → r ≡ no_fit
       from_result (planned o l) f = absurd (true≢false (sym f.is_candidate_lem ∙ u o))
       from_result no_fit f = refl
       from_result no_placing f = absurd (true≢false (sym f.0.1 ∙ u f.0.0))
@@ -123,7 +123,7 @@ module _
     no_candidate_before : (order : ℕ) → order < start → candidate s order ≡ false
     no_candidate_before order h = sym (candidate_if_eligible order) ∙ starting.none_before order h
 
-    pub order_found : start < parting → parting ≤ end → Searched s (Order (parting - 1)) before counts
+    pub order_found : start < parting → parting ≤ end → Searched s (Ok (parting - 1)) before counts
     unfolding found_as found_counts counts_after
     order_found h l = record {
       outcome = plan_found s (parting - 1) counts between (parted.solved h) (λ o g. unsolved_after o (omega arith));
@@ -135,7 +135,7 @@ module _
             sym (candidate_if_eligible (parting - 1))
             ∙ eligible_between _ _ start (parting - 1) (end - 1) (omega arith) (omega arith) (starting.first (omega arith)) (ending.last (omega arith))
 
-    pub no_order_solved : parting ≤ start → start < end → Searched s NoPlacing before counts
+    pub no_order_solved : parting ≤ start → start < end → Searched s (Err NoPlacing) before counts
     unfolding found_as found_counts
     no_order_solved h l = record {
       outcome = plan_unsolved s start (sym (candidate_if_eligible start) ∙ starting.first l) (λ o c. elim (passes_or_fails (ltb o start)) [
@@ -145,7 +145,7 @@ module _
       counted = parted.kept h;
     }
 
-    pub no_order_fits : parting ≤ start → end ≤ start → Searched s NoFit before counts
+    pub no_order_fits : parting ≤ start → end ≤ start → Searched s (Err NoFit) before counts
     unfolding found_as found_counts
     no_order_fits h l = record {
       outcome = plan_unfitted s (λ o. elim (passes_or_fails (ltb o start)) [
@@ -158,19 +158,19 @@ module _
 -- ## One answer
 
 module _ (s : Site) where
-  abbrev answer_of : Outcome → Found
-  answer_of (planned order sequence) = Order order
-  answer_of no_fit = NoFit
-  answer_of no_placing = NoPlacing
+  abbrev answer_of : Outcome → Result ℕ NoPlan
+  answer_of (planned order sequence) = Ok order
+  answer_of no_fit = Err NoFit
+  answer_of no_placing = Err NoPlacing
 
-  answer_is : (found : Found) (counts : List ℕ) → answer_of (found_as found counts s) ≡ found
+  answer_is : (found : Result ℕ NoPlan) (counts : List ℕ) → answer_of (found_as found counts s) ≡ found
   unfolding found_as
-  answer_is (Order order) counts = refl
-  answer_is NoFit counts = refl
-  answer_is NoPlacing counts = refl
+  answer_is (Ok order) counts = refl
+  answer_is (Err NoFit) counts = refl
+  answer_is (Err NoPlacing) counts = refl
 
   -- two results that the search may give for a site, from the same counts, are equal, and so are the counts that they leave
-  pub searched_once : {found other : Found} {before counts others : List ℕ} → Searched s found before counts → Searched s other before others → (found ≡ other) × (counts ≡ others)
+  pub searched_once : {found other : Result ℕ NoPlan} {before counts others : List ℕ} → Searched s found before counts → Searched s other before others → (found ≡ other) × (counts ≡ others)
   searched_once {found} {other} {before} {counts} {others} a b =
       let same = sym (answer_is found counts) ∙ ap answer_of (sym a.outcome ∙ b.outcome) ∙ answer_is other others in
-      (same, a.counted ∙ ap (λ (r : Found). found_counts r before s) same ∙ sym b.counted)
+      (same, a.counted ∙ ap (λ (r : Result ℕ NoPlan). found_counts r before s) same ∙ sym b.counted)

@@ -1,5 +1,5 @@
 -- A site as the figures that the search works on, and what the search says of it.
-use Rattle.std.specs.Prelude.{◌≡◌, Bool, true, false, ◌&&◌, List, [], ◌∷◌, map, ℕ, ◌-◌, ◌≤◌, ◌<◌, leb, length, take}
+use Rattle.std.specs.Prelude.{◌≡◌, Bool, true, false, ◌&&◌, Result, Ok, Err, List, [], ◌∷◌, map, ℕ, ◌-◌, ◌≤◌, ◌<◌, leb, length, take}
 use Rattle.std.proofs.Math.Option.{Option, none, some}
 use Rattle.model.specs.Constraints.{descent}
 use Rattle.model.specs.Counting.{at, sum_below}
@@ -8,11 +8,11 @@ use Rattle.model.specs.Plans.{Outcome, planned, no_fit, no_placing, plan}
 use Rattle.model.specs.Relaxing.{depths, solve}
 use Rattle.model.specs.Sequences.{sequence}
 use Rattle.model.specs.Sites.{Site, size, portion_of, periods, Sound}
-use Rattle.relaxing.specs.declared.Settling.{Settling}
+use Rattle.relaxing.specs.declared.NegativeLoop.{NegativeLoop}
 use Rattle.relaxing.specs.Steps.{settled_as}
 use Rattle.search.specs.declared.Figures.{Figures}
-use Rattle.search.specs.declared.Found.{Found}
-use Rattle.search.specs.declared.Found.TheVariants.{Order, NoFit, NoPlacing}
+use Rattle.search.specs.declared.NoPlan.{NoPlan}
+use Rattle.search.specs.declared.NoPlan.TheVariants.{NoFit, NoPlacing}
 
 -- the figures are those of a sound site with at most 64 clusters and 128 flows: the front of each array is the site's list, the one period permits what all the
 -- site's periods permit, and the total is the sum of the portions
@@ -53,8 +53,8 @@ counts_after none counts = counts
 counts_after (some d) counts = d
 
 -- an order tried, with the counts before and after it
-pub record Probed (s : Site) (order : ℕ) (settling : Settling) (before after : List ℕ) : Type 0 where
-  pub solution : solve s order ≡ settled_as settling after
+pub record Probed (s : Site) (order : ℕ) (settled : Result (Unit {0}) NegativeLoop) (before after : List ℕ) : Type 0 where
+  pub solution : solve s order ≡ settled_as settled after
   pub counted : after ≡ counts_after (solve s order) before
 
 -- of the orders from `start` on below `end`, none from `below` on has a solution; the one before `from` has the counts, which are as before where `from` is `start`
@@ -64,19 +64,19 @@ pub record Parted (s : Site) (start end from below : ℕ) (before counts : List 
   pub kept : from ≤ start → counts ≡ before
 
 -- the outcome that the search found: at an order, with N of each cluster; or none
-unfoldable pub found_as : Found → List ℕ → Site → Outcome
-found_as (Order order) counts s = planned order (sequence s (at counts))
-found_as NoFit counts s = no_fit
-found_as NoPlacing counts s = no_placing
+unfoldable pub found_as : Result ℕ NoPlan → List ℕ → Site → Outcome
+found_as (Ok order) counts s = planned order (sequence s (at counts))
+found_as (Err NoFit) counts s = no_fit
+found_as (Err NoPlacing) counts s = no_placing
 
 -- and the counts after it: the solution at the order that it found, or as they were
-unfoldable pub found_counts : Found → List ℕ → Site → List ℕ
+unfoldable pub found_counts : Result ℕ NoPlan → List ℕ → Site → List ℕ
 unfolding counts_after
-found_counts (Order order) before s = counts_after (solve s order) before
-found_counts NoFit before s = before
-found_counts NoPlacing before s = before
+found_counts (Ok order) before s = counts_after (solve s order) before
+found_counts (Err NoFit) before s = before
+found_counts (Err NoPlacing) before s = before
 
 -- what the search gives: the site's plan, and one list of counts
-pub record Searched (s : Site) (found : Found) (before after : List ℕ) : Type 0 where
+pub record Searched (s : Site) (found : Result ℕ NoPlan) (before after : List ℕ) : Type 0 where
   pub outcome : plan s ≡ found_as found after s
   pub counted : after ≡ found_counts found before s

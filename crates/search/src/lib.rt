@@ -7,8 +7,9 @@ ghost use Rattle.model.specs.Orders.{largest};
 ghost use Rattle.model.specs.Sites.{Site};
 ghost use Rattle.search.specs.Posed.{Posed, eligible, Ending, Starting, Probed, Parted, Searched};
 
+use constraints::Links;
 use model::Order;
-use relaxing::Settling;
+use relaxing::NegativeLoop;
 
 // What the search works on, worked out once for a site: how many clusters and flows it has, the
 // shortest required period, the sum of the portions, and one number for each cluster or flow from
@@ -27,130 +28,114 @@ pub struct Figures {
     pub deadlines: [u32; 128],
 }
 
-// What the search comes to: the order, or that the portions fit no permitted order, or that no
-// permitted order at which they fit has a solution.
-#[derive(Drop)]
-pub enum Found {
-    Order(u8),
+// Why there is no order: the portions fit no permitted one, or no permitted one at which they fit has
+// a solution.
+#[derive(Clone, Copy, Debug, PartialEq, Eq, Drop)]
+pub enum NoPlan {
     NoFit,
     NoPlacing,
 }
 
 // Whether an order is permitted by the shortest period and the sum of the portions fits it.
-fn is_candidate(order: Order, shortest: u32, total: u32) -> bool
+fn is_candidate(order: Order, figures: &Figures) -> bool
     requires { order.number ≤ largest }
-    ensures { result ≡ eligible shortest total order.number }
+    ensures { result ≡ eligible figures.now.shortest figures.now.total order.number }
 {
-    let periods = [shortest];
-    if !order.permitted(&periods) {
-        return false;
-    }
-    total <= order.interval()
+    let periods = [figures.shortest];
+    order.permitted(&periods) && figures.total <= order.interval()
 }
 
 // One more than the largest candidate; 0 where no order is one.
-fn candidates_end(shortest: u32, total: u32) -> u8
-    ensures { Ending shortest total result }
+#[tactic(auto, using(model::specs::OrderLaws::no_order_refused))]
+fn candidates_end(figures: &Figures) -> u8
+    ensures { Ending figures.now.shortest figures.now.total result }
 {
-    let mut end: u8 = Order::LARGEST + 1;
-    while 0 < end {
-        let order = Order::new(end - 1);
-        if is_candidate(order, shortest, total) {
-            return end;
+    for order in (0..=Order::LARGEST).rev() {
+        if is_candidate(Order::new(order), figures) {
+            return order + 1;
         }
-        end -= 1;
+    }
+    0
+}
+
+// The smallest candidate below `end`; `end` where no order below it is one.
+fn candidates_start(end: u8, figures: &Figures) -> u8
+    requires { end ≤ 15 }
+    ensures { Starting figures.now.shortest figures.now.total end result }
+{
+    for order in 0..end {
+        if is_candidate(Order::new(order), figures) {
+            return order;
+        }
     }
     end
 }
 
-// The smallest candidate below `end`; `end` where no order below it is one.
-fn candidates_start(end: u8, shortest: u32, total: u32) -> u8
-    requires { end ≤ 15 }
-    ensures { Starting shortest total end result }
-{
-    let mut start: u8 = 0;
-    while start < end {
-        let order = Order::new(start);
-        if is_candidate(order, shortest, total) {
-            return start;
-        }
-        start += 1;
-    }
-    start
-}
-
 // Fills `counts` with N of each cluster at an order, or gives that the order has no solution and
 // leaves them as they are. The relaxing starts at the depths.
-fn probe(order: Order, figures: Figures, counts: &mut [u8]) -> Settling
+fn probe(order: Order, figures: &Figures, counts: &mut [u8]) -> Result<(), NegativeLoop>
     requires number_le_largest { order.number ≤ largest }
-    requires counts_len { (length counts.old ≡ figures.cluster_count) × ((s : Site) × Posed s figures) }
-    ensures { (s : Site) → Posed s figures → Probed s order.number result counts.old counts.new }
+    requires counts_len { (length counts.old ≡ figures.now.cluster_count) × ((s : Site) × Posed s figures.now) }
+    ensures { (s : Site) → Posed s figures.now → Probed s order.number result counts.old counts.new }
 {
     let clusters = figures.cluster_count;
     let flows = figures.flow_count;
-    let descents = figures.descents;
     let mut limits = figures.deadlines;
-    constraints::limit_flows(&descents[..flows], order.number, &mut limits[..flows]);
-    let parents = figures.parents;
-    let sources = figures.sources;
-    let sinks = figures.sinks;
-    let mut trial = figures.depths;
-    let settling = relaxing::settle(
-        &parents[..clusters],
-        &sources[..flows],
-        &sinks[..flows],
-        &limits[..flows],
-        &mut trial[..clusters],
+    constraints::limit_flows(
+        &figures.descents[..flows],
+        order.number,
+        &mut limits[..flows],
     );
-    match settling {
-        Settling::Settled => {
-            counts.copy_from_slice(&trial[..clusters]);
-        }
-        Settling::NegativeLoop => {}
-    }
-    settling
+    let links = Links {
+        parents: &figures.parents[..clusters],
+        sources: &figures.sources[..flows],
+        sinks: &figures.sinks[..flows],
+        limits: &limits[..flows],
+    };
+    let mut trial = figures.depths;
+    relaxing::settle(&links, &mut trial[..clusters])?;
+    counts.copy_from_slice(&trial[..clusters]);
+    Ok(())
 }
 
 // One more than the largest order from `start` on below `end` that has a solution, with N of each
 // cluster at it in `counts`; `start` where none has one, with `counts` as they were. The largest is
 // tried first, and then the one in the middle of those that are left: a smaller order has a
 // solution if a larger one has.
-fn solved_end(start: u8, end: u8, figures: Figures, counts: &mut [u8]) -> u8
+fn solved_end(start: u8, end: u8, figures: &Figures, counts: &mut [u8]) -> u8
     requires start_le_end { (start ≤ end) × (end ≤ 15) }
-    requires counts_len { (length counts.old ≡ figures.cluster_count) × ((s : Site) × Posed s figures) }
+    requires counts_len { (length counts.old ≡ figures.now.cluster_count) × ((s : Site) × Posed s figures.now) }
     ensures lower_bound { (start ≤ result) × (result ≤ end) }
-    ensures parted { (s : Site) → Posed s figures → Parted s start end result result counts.old counts.new }
+    ensures parted { (s : Site) → Posed s figures.now → Parted s start end result result counts.old counts.new }
 {
     let mut from = start;
     let mut below = end;
     let mut step: u8 = 1;
     while from < below {
         let order = below - step;
-        let settling = probe(Order::new(order), figures, counts);
-        match settling {
-            Settling::Settled => from = order + 1,
-            Settling::NegativeLoop => below = order,
+        match probe(Order::new(order), figures, counts) {
+            Ok(()) => from = order + 1,
+            Err(NegativeLoop) => below = order,
         }
-        step = (below - from + 1) / 2;
+        step = (below - from).div_ceil(2);
     }
     from
 }
 
 // The largest permitted order at which the portions fit and which has a solution, with N of each
 // cluster in `counts`; these stay as they were where there is none.
-pub fn search(figures: Figures, counts: &mut [u8]) -> Found
-    requires { (length counts.old ≡ figures.cluster_count) × ((s : Site) × Posed s figures) }
-    ensures { (s : Site) → Posed s figures → Searched s result counts.old counts.new }
+pub fn search(figures: &Figures, counts: &mut [u8]) -> Result<u8, NoPlan>
+    requires { (length counts.old ≡ figures.now.cluster_count) × ((s : Site) × Posed s figures.now) }
+    ensures { (s : Site) → Posed s figures.now → Searched s result counts.old counts.new }
 {
-    let end = candidates_end(figures.shortest, figures.total);
-    let start = candidates_start(end, figures.shortest, figures.total);
+    let end = candidates_end(figures);
+    let start = candidates_start(end, figures);
     let solved = solved_end(start, end, figures, counts);
     if start < solved {
-        return Found::Order(solved - 1);
-    }
-    if start < end {
-        Found::NoPlacing
+        Ok(solved - 1)
+    } else if start < end {
+        Err(NoPlan::NoPlacing)
     } else {
-        Found::NoFit
+        Err(NoPlan::NoFit)
     }
 }

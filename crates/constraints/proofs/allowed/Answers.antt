@@ -1,8 +1,6 @@
 -- To divide by the base and then as often by 2 as the order says is to divide by the interval.
-use mathlib.Core.Path.{◌≡◌, ap}
-use Prim.Native.Nat.{ℕ, ◌-◌, ◌/◌, ◌^◌}
+use Rattle.std.proofs.Common.{◌≡◌, ℕ, ◌-◌, ◌/◌, ◌^◌, ap, ◌∙◌}
 use native.Mathlib.Nat.{div-div-eq-div-mul}
-use native.Mathlib.Omega.{arith}
 use Rattle.model.specs.Orders.{symbols, interval}
 use Rattle.constraints.proofs.allowed.Goals as goal
 
@@ -10,8 +8,5 @@ by_interval : (d o : ℕ) → d / 960 / 2 ^ o ≡ d / interval o
 unfolding symbols
 by_interval d o = div-div-eq-div-mul d 960 (2 ^ o)
 
-pub returns-then-intervals-eq0 : goal.returns-then-intervals-eq0
-returns-then-intervals-eq0 c = omega (arith, by_interval c.args.deadline c.args.order)
-
 pub returns : goal.returns
-returns c = ap (λ (n : ℕ). n - 1) (by_interval _ _)
+returns c = c.saturating_sub.ensures ∙ ap (λ (n : ℕ). n - 1) (by_interval _ _)

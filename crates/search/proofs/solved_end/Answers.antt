@@ -6,7 +6,7 @@ use Rattle.relaxing.specs.Steps.{settled_as}
 use Rattle.search.specs.Deciding.{order_solved, order_unsolved}
 use Rattle.search.specs.Posed.{counts_after}
 use Rattle.search.proofs.solved_end.Goals as goal
-use Rattle.search.proofs.solved_end.Goals.{in-Settled, in-NegativeLoop}
+use Rattle.search.proofs.solved_end.Goals.{in-Ok, in-Err}
 
 -- where an order has no solution, the counts stay
 unchanged : {r : Option (List ℕ)} {before after : List ℕ} → r ≡ none → after ≡ counts_after r before → after ≡ before
@@ -17,9 +17,9 @@ pub loop-from-preserved : goal.loop-from-preserved
 unfolding settled_as
 loop-from-preserved c =
     let stepped : (0 < c.loop-from.step) × (c.loop-from.from + c.loop-from.step ≤ c.loop-from.below) = c.loop-from.invariant.3 c.loop-from-test.true in
-    let length = c.probe-settling.auto.counts ∙ c.loop-from.invariant.4 in
-    elim c.match-settling.branch [
-      | in-Settled w ↦ (
+    let length = c.probe.auto.counts ∙ c.loop-from.invariant.4 in
+    elim c.match-probe.branch [
+      | in-Ok w ↦ (
         omega arith,
         omega arith,
         omega arith,
@@ -27,11 +27,11 @@ loop-from-preserved c =
         length,
         λ s posed.
             let number = ap (solve s) (sym c.new.ensures) in
-            let probed = c.probe-settling.ensures s posed in
+            let probed = c.probe.ensures s posed in
             let so_far = c.loop-from.invariant.5 s posed in
-            rw (w.from-is, w.below-is) (order_solved s posed.sound _ _ _ _ _ _ so_far _ (omega arith) _ (number ∙ (rw w.in-Settled.is at probed.solution))),
+            rw (w.from-is, w.below-is) (order_solved s posed.sound _ _ _ _ _ _ so_far _ (omega arith) _ (number ∙ (rw w.in-Ok.is at probed.solution))),
       )
-      | in-NegativeLoop w ↦ (
+      | in-Err w ↦ (
         omega arith,
         omega arith,
         omega arith,
@@ -39,9 +39,9 @@ loop-from-preserved c =
         length,
         λ s posed.
             let number = ap (solve s) (sym c.new.ensures) in
-            let probed = c.probe-settling.ensures s posed in
+            let probed = c.probe.ensures s posed in
             let so_far = c.loop-from.invariant.5 s posed in
-            let unsolved = rw w.in-NegativeLoop.is at probed.solution in
+            let unsolved = rw w.in-Err.is at probed.solution in
             rw (w.from-is, w.below-is, unchanged unsolved probed.counted) (order_unsolved s posed.sound _ _ _ _ _ _ so_far _ (number ∙ unsolved)),
       )
     ]
