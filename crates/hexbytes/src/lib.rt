@@ -24,69 +24,48 @@ fn pair(high: u8, low: u8) -> u8
     high % 16 * 16 + low % 16
 }
 
+// Whether all characters are digits. None is left out, since a test that stops early takes them one
+// by one.
+fn all_digits(chars: &[u8]) -> bool
+    ensures { result ≡ all_digits chars.now }
+{
+    chars
+        .iter()
+        .fold(true, |all, &c| all & hexline::is_digit(c))
+}
+
 // Whether the n characters from `at` on are digits.
 pub fn are_digits(line: &[u8], at: usize, n: usize) -> bool
     requires { at + n ≤ length line.now }
     ensures { result ≡ every n (λ j. is_digit (get_or line.now (at + j) 0)) }
 {
-    let mut all = true;
-    let mut j: usize = 0;
-    while j < n {
-        all = all & hexline::is_digit(line[at + j]);
-        j += 1;
-    }
-    all
+    all_digits(&line[at..at + n])
 }
 
-// The values of the sixteen characters from `at` on.
-fn sixteen_nibbles(line: &[u8], at: usize) -> [u8; 16]
-    requires { at + 16 ≤ length line.now }
-    ensures { result ≡ filled (λ j. nibble_of (get_or line.now (at + j) 0)) (replicate 16 0) 16 }
+// The values of the characters from `at` on, as many as a block has.
+fn nibbles<const CHARS: usize>(line: &[u8], at: usize) -> [u8; CHARS]
+    requires { at + CHARS ≤ length line.now }
+    ensures { result ≡ filled (λ j. nibble_of (get_or line.now (at + j) 0)) (replicate CHARS 0) CHARS }
 {
-    let mut nibbles = [0u8; 16];
-    let mut j: usize = 0;
-    while j < 16 {
-        nibbles[j] = nibble(line[at + j]);
-        j += 1;
+    let mut values = [0u8; CHARS];
+    for (j, value) in values.iter_mut().enumerate() {
+        *value = nibble(line[at + j]);
     }
-    nibbles
+    values
 }
 
-// The values of the thirty-two characters from `at` on.
-fn thirty_two_nibbles(line: &[u8], at: usize) -> [u8; 32]
-    requires { at + 32 ≤ length line.now }
-    ensures { result ≡ filled (λ j. nibble_of (get_or line.now (at + j) 0)) (replicate 32 0) 32 }
+// Stores the bytes of a block's values from `at` on.
+fn store<const PAIRS: usize, const CHARS: usize>(
+    values: &[u8; CHARS],
+    at: usize,
+    out: &mut [u8; 68],
+)
+    requires whole { CHARS ≡ 2 * PAIRS }
+    requires room { at + PAIRS ≤ 68 }
+    ensures { out.new ≡ laid (pair_at values.now) out.old at PAIRS }
 {
-    let mut nibbles = [0u8; 32];
-    let mut j: usize = 0;
-    while j < 32 {
-        nibbles[j] = nibble(line[at + j]);
-        j += 1;
-    }
-    nibbles
-}
-
-// Stores the eight bytes of sixteen values from `at` on.
-fn store_eight(nibbles: [u8; 16], at: usize, out: &mut [u8; 68])
-    requires { at + 8 ≤ 68 }
-    ensures { out.new ≡ laid (pair_at nibbles) out.old at 8 }
-{
-    let mut j: usize = 0;
-    while j < 8 {
-        out[at + j] = pair(nibbles[2 * j], nibbles[2 * j + 1]);
-        j += 1;
-    }
-}
-
-// Stores the sixteen bytes of thirty-two values from `at` on.
-fn store_sixteen(nibbles: [u8; 32], at: usize, out: &mut [u8; 68])
-    requires { at + 16 ≤ 68 }
-    ensures { out.new ≡ laid (pair_at nibbles) out.old at 16 }
-{
-    let mut j: usize = 0;
-    while j < 16 {
-        out[at + j] = pair(nibbles[2 * j], nibbles[2 * j + 1]);
-        j += 1;
+    for j in 0..PAIRS {
+        out[at + j] = pair(values[2 * j], values[2 * j + 1]);
     }
 }
 
@@ -95,79 +74,55 @@ fn decode_few(line: &[u8], out: &mut [u8; 68]) -> bool
     requires { length line.now ≤ 136 }
     ensures { (result ≡ all_digits line.now) × (out.new ≡ filled (byte_at line.now) out.old (length line.now / 2)) }
 {
-    let mut i: usize = 0;
-    while i < line.len() / 2 {
+    for i in 0..line.len() / 2 {
         out[i] = hexline::byte_at(line, i);
-        i += 1;
     }
-    are_digits(line, 0, line.len())
+    all_digits(line)
 }
 
-// Where the next eight of n pairs begin, after i of them: at i, or so that they end at n.
-fn next_eight(n: usize, i: usize) -> usize
-    requires { (8 ≤ n) × (i < n) }
-    ensures { (result ≤ i) × (i < result + 8) × (result + 8 ≤ n) }
+// Where the next block of n pairs begins, after i of them: at i, or so that it ends at n.
+fn next_block<const PAIRS: usize>(n: usize, i: usize) -> usize
+    requires some { 0 < PAIRS }
+    requires whole { PAIRS ≤ n }
+    requires left { i < n }
+    ensures { (result ≤ i) × (i < result + PAIRS) × (result + PAIRS ≤ n) }
 {
-    if n - i < 8 { n - 8 } else { i }
+    i.min(n - PAIRS)
 }
 
-// Where the next sixteen of n pairs begin, after i of them: at i, or so that they end at n.
-fn next_sixteen(n: usize, i: usize) -> usize
-    requires { (16 ≤ n) × (i < n) }
-    ensures { (result ≤ i) × (i < result + 16) × (result + 16 ≤ n) }
-{
-    if n - i < 16 { n - 16 } else { i }
-}
-
-// A line of sixteen characters or more, eight pairs at a time; the last eight may overlap those
-// before.
-fn decode_eights(line: &[u8], out: &mut [u8; 68]) -> bool
-    requires { (16 ≤ length line.now) × (length line.now ≤ 136) }
+// A line of one block or more, block by block. The last block goes back so that it ends with the
+// line, and may overlap those before: no step of a range.
+fn decode_blocks<const PAIRS: usize, const CHARS: usize>(line: &[u8], out: &mut [u8; 68]) -> bool
+    requires whole { CHARS ≡ 2 * PAIRS }
+    requires some { 0 < PAIRS }
+    requires long { CHARS ≤ length line.now }
+    requires short { length line.now ≤ 136 }
     ensures { (result ≡ every (2 * (length line.now / 2)) (λ i. is_digit (get_or line.now i 0))) × (out.new ≡ filled (raw_at line.now) out.old (length line.now / 2)) }
 {
     let n = line.len() / 2;
     let mut all = true;
     let mut i: usize = 0;
     while i < n {
-        let at = next_eight(n, i);
-        all = all & are_digits(line, 2 * at, 16);
-        store_eight(sixteen_nibbles(line, 2 * at), at, out);
-        i = at + 8;
+        let at = next_block::<PAIRS>(n, i);
+        all &= are_digits(line, 2 * at, CHARS);
+        store::<PAIRS, CHARS>(&nibbles(line, 2 * at), at, out);
+        i = at + PAIRS;
     }
     all
 }
 
-// A line of thirty-two characters or more, sixteen pairs at a time: a block then fills two
-// registers, and its bytes one.
-fn decode_sixteens(line: &[u8], out: &mut [u8; 68]) -> bool
-    requires { (32 ≤ length line.now) × (length line.now ≤ 136) }
-    ensures { (result ≡ every (2 * (length line.now / 2)) (λ i. is_digit (get_or line.now i 0))) × (out.new ≡ filled (raw_at line.now) out.old (length line.now / 2)) }
-{
-    let n = line.len() / 2;
-    let mut all = true;
-    let mut i: usize = 0;
-    while i < n {
-        let at = next_sixteen(n, i);
-        all = all & are_digits(line, 2 * at, 32);
-        store_sixteen(thirty_two_nibbles(line, 2 * at), at, out);
-        i = at + 16;
-    }
-    all
-}
-
-// Decodes a line of whole bytes: whether all its characters are digits, and where they are, its
-// bytes at the front of `out`, with what stood behind them left there.
+// Decodes a line of whole bytes, in blocks of sixteen pairs where it has as many: such a block fills
+// two registers, and its bytes one. Gives whether all its characters are digits, and where they are,
+// its bytes at the front of `out`, with what stood behind them left there.
 fn decode(line: &[u8], out: &mut [u8; 68]) -> bool
     requires { (length line.now ≤ 136) × (length line.now % 2 ≡ 0) }
     ensures { (result ≡ all_digits line.now) × (result ≡ true → out.new ≡ filled (byte_at line.now) out.old (length line.now / 2)) }
 {
-    if line.len() < 16 {
-        return decode_few(line, out);
+    match line.len() {
+        0..=15 => decode_few(line, out),
+        16..=31 => decode_blocks::<8, 16>(line, out),
+        _ => decode_blocks::<16, 32>(line, out),
     }
-    if line.len() < 32 {
-        return decode_eights(line, out);
-    }
-    decode_sixteens(line, out)
 }
 
 // Whether a line is no row of whole bytes: no digits, more than `most`, an odd number of them,

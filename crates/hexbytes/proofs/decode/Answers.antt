@@ -2,11 +2,8 @@
 use Rattle.hexbytes.specs.DecodeLaws.{decoded}
 use Rattle.hexbytes.proofs.decode.Goals as goal
 
-pub returns-then-line-lt16 : goal.returns-then-line-lt16
-returns-then-line-lt16 c = (c.decode_few.ensures.0, λ e. c.decode_few.ensures.1)
+pub returns-in-16-to-31 : goal.returns-in-16-to-31
+returns-in-16-to-31 c = decoded _ _ _ _ c.requires.1 c.decode_blocks.ensures.0 c.decode_blocks.ensures.1
 
-pub returns-then-line-lt32 : goal.returns-then-line-lt32
-returns-then-line-lt32 c = decoded _ _ _ _ c.requires.1 c.decode_eights.ensures.0 c.decode_eights.ensures.1
-
-pub returns : goal.returns
-returns c = decoded _ _ _ _ c.requires.1 c.decode_sixteens.ensures.0 c.decode_sixteens.ensures.1
+pub returns-in_default : goal.returns-in_default
+returns-in_default c = decoded _ _ _ _ c.requires.1 c.decode_blocks-in_default.ensures.0 c.decode_blocks-in_default.ensures.1
