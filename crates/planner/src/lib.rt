@@ -45,7 +45,8 @@ fn place_clusters(figures: &Figures, placed: &mut [u8]) -> Schedule
         Err(NoPlan::NoFit) => Schedule::NoFit,
         Err(NoPlan::NoPlacing) => Schedule::NoPlacing,
         Ok(order) => {
-            let count = sequence::sequence(&figures.parents[..n], &counts[..n], placed);
+            let parents = figures.parents;
+            let count = sequence::sequence(&parents[..n], &counts[..n], placed);
             Schedule::Made { order, count }
         }
     }

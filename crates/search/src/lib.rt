@@ -80,16 +80,18 @@ fn probe(order: Order, figures: &Figures, counts: &mut [u8]) -> Result<(), Negat
 {
     let clusters = figures.cluster_count;
     let flows = figures.flow_count;
+    // Whole arrays are taken out, and not slices of them: the compiler then keeps no second copy on
+    // the stack.
+    let descents = figures.descents;
     let mut limits = figures.deadlines;
-    constraints::limit_flows(
-        &figures.descents[..flows],
-        order.number,
-        &mut limits[..flows],
-    );
+    constraints::limit_flows(&descents[..flows], order.number, &mut limits[..flows]);
+    let parents = figures.parents;
+    let sources = figures.sources;
+    let sinks = figures.sinks;
     let links = Links {
-        parents: &figures.parents[..clusters],
-        sources: &figures.sources[..flows],
-        sinks: &figures.sinks[..flows],
+        parents: &parents[..clusters],
+        sources: &sources[..flows],
+        sinks: &sinks[..flows],
         limits: &limits[..flows],
     };
     let mut trial = figures.depths;

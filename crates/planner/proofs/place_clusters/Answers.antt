@@ -64,6 +64,9 @@ slice_bounds-search-end c = sym (zeros-number _ _ c.requires.1.1)
 pub search-found-requires : goal.search-found-requires
 search-found-requires c = (zeros-number _ _ c.requires.1.1, c.requires.1)
 
+pub slice_bounds-parents-end : goal.slice_bounds-parents-end
+slice_bounds-parents-end c = (parents-fit (goal.at.slice_bounds-parents-end c).After-search-found).fits
+
 pub slice_bounds-sequence-end : goal.slice_bounds-sequence-end
 slice_bounds-sequence-end c = sym (parents-fit (goal.at.slice_bounds-sequence-end c).After-search-found).number
 
