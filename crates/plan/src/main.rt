@@ -8,8 +8,8 @@ ghost use Rattle.std.specs.Io.{ReadsAtMost};
 use std::io;
 use std::io::Read;
 
-// Reads until the space is full or the input ends, and gives how many bytes were read. No method of
-// `Read` does that without an allocator.
+// Reads until the space is full or the input ends, and gives how many bytes were read.
+// `read_to_end` needs an allocator, and `io::copy` into a slice does not say how far it came.
 fn read_full(input: &mut impl Read, space: &mut [u8]) -> io::Result<usize>
     ensures { ReadsAtMost result space.new }
 {
