@@ -37,7 +37,7 @@ impl<'a> Links<'a> {
     ghost use Rattle.constraints.specs.Links.{entries_of};
 
     // How many constraints there are.
-    pub fn len(&self) -> usize
+    pub fn constraint_count(&self) -> usize
         ensures { result ≡ length (entries_of self.now) }
     {
         2 * (self.parents.len() - 1) + self.sources.len()

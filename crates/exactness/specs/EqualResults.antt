@@ -114,7 +114,7 @@ pub record EqualResults : Type 0 where
       → ((parent : ℕ → ℕ) → Lineages parent sets → r₁ ≡ top_of parent a b) → ((parent : ℕ → ℕ) → Lineages parent sets → r₂ ≡ top_of parent a b) → r₁ ≡ r₂
   pub limit_flows : (descents deadlines : List ℕ) (order : ℕ) → OneResult (limits_of descents deadlines (interval order))
   pub allowed : (deadline order : ℕ) → OneResult (deadline / interval order - 1)
-  pub links_len : (links : Links) → OneResult (length (entries_of links))
+  pub constraint_count : (links : Links) → OneResult (length (entries_of links))
   pub constraint_at : (place : ℕ) (parents sources sinks limits : List ℕ) → OneResult (get_or (site_entries parents sources sinks limits) place blank)
   pub sequence : (size : ℕ) (parent N : ℕ → ℕ) (room room₁ room₂ : List ℕ) (r₁ r₂ : ℕ) → Sequenced size parent N room room₁ r₁ → Sequenced size parent N room room₂ r₂ → (r₁ ≡ r₂) × (room₁ ≡ room₂)
   pub search : (figures : Figures) (before counts₁ counts₂ : List ℕ) (r₁ r₂ : Result ℕ NoPlan) → ((s : model.Site) × Posed s figures)
@@ -187,7 +187,7 @@ results_are_equal = record {
   top = λ sets a b r₁ r₂ w p q. equal_results (top_of w.0 a b) r₁ r₂ (p w.0 w.1) (q w.0 w.1);
   limit_flows = λ descents deadlines order. equal_results (limits_of descents deadlines (interval order));
   allowed = λ deadline order. equal_results (deadline / interval order - 1);
-  links_len = λ links. equal_results (length (entries_of links));
+  constraint_count = λ links. equal_results (length (entries_of links));
   constraint_at = λ place parents sources sinks limits. equal_results (get_or (site_entries parents sources sinks limits) place blank);
   sequence = λ size parent N room room₁ room₂ r₁ r₂ p q. let placed = in_order size parent N in
       equal_results_in_room (length placed) (placed ++ drop (length placed) room) r₁ r₂ room₁ room₂ (p.number, sequenced_room size parent N room room₁ r₁ p) (q.number, sequenced_room size parent N room room₂ r₂ q);

@@ -34,8 +34,9 @@ fn lower(constraint: &Constraint, distances: &mut [u8]) -> Result<bool, Negative
 {
     let from = constraint.from as usize;
     let to = constraint.to as usize;
-    let reach = distances[from] as usize + constraint.credit as usize;
-    if distances[to] as usize + BIAS as usize <= reach {
+    let reach = usize::from(distances[from]) + constraint.credit as usize;
+    let held = usize::from(distances[to]) + BIAS as usize;
+    if held <= reach {
         return Ok(false);
     }
     if reach < BIAS as usize {
@@ -72,7 +73,7 @@ pub fn settle(links: &Links, distances: &mut [u8]) -> Result<(), NegativeLoop>
     requires each { Each (Within (length distances.old)) (map meaning (entries_of links.now)) }
     ensures { (settled_within (length distances.old) (map meaning (entries_of links.now)) distances.old ≡ settled_as result distances.new) × (length distances.new ≡ length distances.old) }
 {
-    let count = links.len();
+    let count = links.constraint_count();
     let mut list = [Constraint {
         from: 0,
         to: 0,

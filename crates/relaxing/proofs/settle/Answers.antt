@@ -5,10 +5,10 @@ use Rattle.relaxing.proofs.settle.Goals as goal
 
 pub slice_bounds-fill-end : goal.slice_bounds-fill-end
 slice_bounds-fill-end c =
-    let fits : c.len-count.result ≤ 254 = omega (arith, entries_length c.args.links.now) in
+    let fits : c.constraint_count-count.result ≤ 254 = omega (arith, entries_length c.args.links.now) in
     sym (length-take-le _ _ fits)
 
 pub fill-requires : goal.fill-requires
 fill-requires c =
-    let fits : c.len-count.result ≤ 254 = omega (arith, entries_length c.args.links.now) in
-    length-take-le _ _ fits ∙ c.len-count.ensures
+    let fits : c.constraint_count-count.result ≤ 254 = omega (arith, entries_length c.args.links.now) in
+    length-take-le _ _ fits ∙ c.constraint_count-count.ensures
