@@ -58,7 +58,8 @@ fn candidates_end(figures: &Figures) -> u8
     0
 }
 
-// The smallest candidate below `end`; `end` where no order below it is one.
+// The smallest candidate below `end`; `end` where no order below it is one. A direction to go in, as an
+// argument of one function for both, would only hide which end each of them gives.
 fn candidates_start(end: u8, figures: &Figures) -> u8
     requires { end ≤ 15 }
     ensures { Starting figures.now.shortest figures.now.total end result }
