@@ -11,15 +11,12 @@ pub fn line_start(text: &[u8], k: usize) -> usize
     if k == 0 {
         return text.len();
     }
-    let mut at: usize = 0;
     let mut left = k - 1;
-    while at < text.len() {
+    for (at, &b) in text.iter().enumerate() {
         if left == 0 {
             return at;
         }
-        let b = text[at];
-        at += 1;
-        if b == 10 {
+        if b == b'\n' {
             left -= 1;
         }
     }

@@ -1,20 +1,19 @@
--- Each return stands in one range of characters, and the law of that range gives the value.
-use mathlib.Core.Path.{sym}
+-- Each arm is one range of characters, and what is left is below, between or above the two; the law of each gives the value.
+use Rattle.std.proofs.Common.{sym, arith}
 use Rattle.hexline.specs.DigitLaws.{below_digits, decimal_digit, amid_digits, letter_digit, above_digits}
-use borrow.Author.Rules.{rules}
 use Rattle.hexline.proofs.digit_of.Goals as goal
 
-pub returns-then-b-lt48 : goal.returns-then-b-lt48
-returns-then-b-lt48 c = (sym (below_digits _ c.if-b-lt48.true).1, search rules)
+pub returns-in-48-to-57 : goal.returns-in-48-to-57
+returns-in-48-to-57 c = let d = decimal_digit c.args.b (omega arith) (omega arith) in (sym d.1, omega arith)
 
-pub returns-then-b-le57 : goal.returns-then-b-le57
-returns-then-b-le57 c = (sym (decimal_digit _ c.if-b-lt48.false c.if-b-le57.true).1, search rules)
+pub returns-in-65-to-70 : goal.returns-in-65-to-70
+returns-in-65-to-70 c = let d = letter_digit c.args.b (omega arith) (omega arith) in (omega (arith, d.1), omega arith)
 
-pub returns-then-b-lt65 : goal.returns-then-b-lt65
-returns-then-b-lt65 c = (sym (amid_digits _ c.if-b-le57.false c.if-b-lt65.true).1, search rules)
+pub returns-in_default : goal.returns-in_default
+returns-in_default c = (sym (below_digits c.args.b (omega arith)).1, omega arith)
 
-pub returns-then-b-le70 : goal.returns-then-b-le70
-returns-then-b-le70 c = (sym (letter_digit _ c.if-b-lt65.false c.if-b-le70.true).1, search rules)
+pub returns-in_default-2 : goal.returns-in_default-2
+returns-in_default-2 c = (sym (amid_digits c.args.b (omega arith) (omega arith)).1, omega arith)
 
-pub returns : goal.returns
-returns c = (sym (above_digits _ c.if-b-le70.false).1, search rules)
+pub returns-in_default-3 : goal.returns-in_default-3
+returns-in_default-3 c = (sym (above_digits c.args.b (omega arith)).1, omega arith)

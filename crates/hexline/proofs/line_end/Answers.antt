@@ -1,13 +1,17 @@
-use native.Mathlib.Omega.{arith}
-use Rattle.hexline.specs.LineLaws.{line_goes_on, line_ends, line_none}
-use borrow.Author.Rules.{rules}
+-- From the place that `behind_eights` gives, the line goes on to the first LF, or to the end.
+use Rattle.std.proofs.Common.{◌≡◌, drop, ◌∙◌, arith, length-drop}
+use Rattle.hexline.specs.Lines.{line_length}
+use Rattle.hexline.specs.LineLaws.{line_within, line_length_position, part_to_end}
 use Rattle.hexline.proofs.line_end.Goals as goal
+use Rattle.hexline.proofs.line_end.Goals.{After-unwrap_or}
 
-pub returns-then-text-i-eq10 : goal.returns-then-text-i-eq10
-returns-then-text-i-eq10 c = omega (arith, line_ends c.args.text.now c.loop-i.i c.loop-i-test.true c.if-text-i-eq10.true)
+left : (c : After-unwrap_or) → c.unwrap_or.result ≡ line_length (drop c.behind_eights-i.result c.args.text.now)
+left c = c.unwrap_or.ensures ∙ rw (c.first_end.ensures, part_to_end c.args.text.now c.behind_eights-i.result) (line_length_position _)
 
-pub loop-i-preserved : goal.loop-i-preserved
-loop-i-preserved c = (search rules, omega (arith, line_goes_on c.args.text.now c.loop-i.i c.loop-i-test.true c.if-text-i-eq10.false))
+pub overflow_add-result : goal.overflow_add-result
+overflow_add-result c =
+    let i = c.behind_eights-i.result in
+    omega (arith, left (goal.at.overflow_add-result c).After-unwrap_or, line_within (drop i c.args.text.now), length-drop i c.args.text.now)
 
 pub returns : goal.returns
-returns c = omega (arith, line_none c.args.text.now c.loop-i.i c.loop-i-test.false)
+returns c = omega (arith, left (goal.at.returns c).After-unwrap_or)

@@ -1,11 +1,7 @@
 -- The invariant: `number` is that of the first `i` bytes, and below 256 ^ i.
-use mathlib.Core.Path.{◌≡◌}
-use Prim.Native.Nat.{◌^◌, ◌≤◌, ◌<◌, ◌-◌}
+use Rattle.std.proofs.Common.{◌≡◌, ◌^◌, ◌<◌}
 use Rattle.hexline.specs.Digits.{number_at}
 use Rattle.hexline.proofs.number_at.Given as goal
 
 abbrev pub invariant-loop-i : goal.invariant-loop-i
-invariant-loop-i l = (l.number ≡ number_at l.line l.k l.i) × (l.number < 256 ^ l.i) × (l.i ≤ l.width)
-
-abbrev pub decreases-loop-i : goal.decreases-loop-i
-decreases-loop-i l = l.width - l.i
+invariant-loop-i l = (l.number ≡ number_at l.line l.k l.i) × (l.number < 256 ^ l.i)
