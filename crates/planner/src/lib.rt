@@ -23,33 +23,25 @@ pub enum Planned {
     Refused { number: u8, line: usize, place: u16 },
 }
 
-// The order and how many clusters are placed, or that the portions fit no permitted order, or that
-// no placing exists at any.
-#[derive(Drop)]
-enum Schedule {
-    Made { order: u8, count: usize },
-    NoFit,
-    NoPlacing,
+// The order and how many clusters are placed.
+#[derive(Clone, Copy, Debug, PartialEq, Eq, Drop)]
+struct Schedule {
+    order: u8,
+    count: usize,
 }
 
 // The order of the plan of the site that the figures describe; the first entries of `placed` are
 // then the clusters in order of start.
-fn place_clusters(figures: &Figures, placed: &mut [u8]) -> Schedule
+fn place_clusters(figures: &Figures, placed: &mut [u8]) -> Result<Schedule, NoPlan>
     requires { (length placed.old ≡ figures.now.cluster_count) × ((s : Described) × Posed s figures.now) }
     ensures { (s : Described) → Posed s figures.now → Scheduled s result placed.new }
 {
     let n = figures.cluster_count;
     let mut counts = [0; 64];
-    let found = search::search(figures, &mut counts[..n]);
-    match found {
-        Err(NoPlan::NoFit) => Schedule::NoFit,
-        Err(NoPlan::NoPlacing) => Schedule::NoPlacing,
-        Ok(order) => {
-            let parents = figures.parents;
-            let count = sequence::sequence(&parents[..n], &counts[..n], placed);
-            Schedule::Made { order, count }
-        }
-    }
+    let order = search::search(figures, &mut counts[..n])?;
+    let parents = figures.parents;
+    let count = sequence::sequence(&parents[..n], &counts[..n], placed);
+    Ok(Schedule { order, count })
 }
 
 fn refused(number: u8, line: usize, place: u16) -> Planned
@@ -86,9 +78,9 @@ pub fn plan_accepted(site: Site, room: &mut [u8]) -> Planned
     }
     let schedule = place_clusters(&figures::figures_of(site, parents, total), &mut placed[..n]);
     match schedule {
-        Schedule::NoFit => refused(7, 0, NO_PLACE),
-        Schedule::NoPlacing => refused(8, 0, NO_PLACE),
-        Schedule::Made { order, count } => {
+        Err(NoPlan::NoFit) => refused(7, 0, NO_PLACE),
+        Err(NoPlan::NoPlacing) => refused(8, 0, NO_PLACE),
+        Ok(Schedule { order, count }) => {
             if room.len() < size {
                 return refused(9, 0, NO_PLACE);
             }

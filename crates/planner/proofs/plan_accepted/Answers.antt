@@ -27,6 +27,9 @@ use Rattle.plantext.specs.PlanText.{site_of, placed_line, plan_line, plan_text, 
 use Rattle.plantext.specs.PlanTextLaws.{header-length, text-length, cluster_in_range, index_in_range, lines_all, next_sum, line_here, text_put}
 use Rattle.figures.specs.SiteLaws.{counts_bounded, clusters_counted}
 use Rattle.planner.specs.declared.Planned.TheVariants.{Plan}
+use Rattle.std.proofs.Common.{Result, Err}
+use Rattle.search.specs.declared.NoPlan.{NoPlan}
+use Rattle.search.specs.declared.NoPlan.TheVariants.{NoFit, NoPlacing}
 use Rattle.planner.specs.declared.Schedule.{Schedule}
 use Rattle.planner.specs.PlanSize.{line_size, plan_size, plan_text_size}
 use Rattle.planner.specs.Schedules.{Scheduled, scheduled_as, scheduled_count}
@@ -34,7 +37,7 @@ use Rattle.planner.specs.SequenceLaws.{planned_fresh}
 use borrow.Author.Rules.{rules}
 use borrow.Author.Tests.{le-leb, lt-leb}
 use Rattle.planner.proofs.plan_accepted.Goals as goal
-use Rattle.planner.proofs.plan_accepted.Goals.{After-portion-total, In-Made, In-loop-i}
+use Rattle.planner.proofs.plan_accepted.Goals.{After-portion-total, In-Ok, In-loop-i}
 use Rattle.planner.proofs.plan_accepted.Invariants.{flowless, Written}
 
 abbrev zeros : List ℕ
@@ -54,8 +57,8 @@ module _ (s : Site) (n : ℕ) (e : n ≡ s.cluster_count) where
   same-portions = rw e
 
 -- what the schedule says of the plan
-as_scheduled : {s : Described} {a r : Schedule} {placed : List ℕ} → Scheduled s a placed → a ≡ r → plan s ≡ scheduled_as r placed
-as_scheduled {placed = placed} scheduled e = scheduled.outcome ∙ ap (λ (r : Schedule). scheduled_as r placed) e
+as_scheduled : {s : Described} {a r : Result Schedule NoPlan} {placed : List ℕ} → Scheduled s a placed → a ≡ r → plan s ≡ scheduled_as r placed
+as_scheduled {placed = placed} scheduled e = scheduled.outcome ∙ ap (λ (r : Result Schedule NoPlan). scheduled_as r placed) e
 
 -- in a turn of the first loop
 cluster_fits : (s : Site) → checked s ≡ Accepted → (n : ℕ) → n ≡ s.cluster_count → (i : ℕ) → i < n → ClusterIn (get_or s.clusters i absent) × (i < 64)
@@ -76,15 +79,15 @@ module _ (c : After-portion-total) where
   portion-bounded = omega (arith, portion-here, symbols_bounded in_range.order)
 
 -- where there is a plan: the sequence is the array's front
-module _ (c : In-Made) where
+module _ (c : In-Ok) where
   abbrev site : Site
   site = c.args.site
 
   abbrev order : ℕ
-  order = c.in-Made.order
+  order = c.in-Ok.field-0.order
 
   abbrev count : ℕ
-  count = c.in-Made.count
+  count = c.in-Ok.field-0.count
 
   abbrev front : List ℕ
   front = c.place_clusters-schedule.new.placed
@@ -100,14 +103,14 @@ module _ (c : In-Made) where
 
   count_fits : count ≤ length front
   unfolding scheduled_count
-  count_fits = let bound = (c.place_clusters-schedule.ensures _ c.figures_of.ensures).counted in omega (arith, bound, ap scheduled_count c.in-Made.is)
+  count_fits = let bound = (c.place_clusters-schedule.ensures _ c.figures_of.ensures).counted in omega (arith, bound, ap scheduled_count c.in-Ok.is)
 
   sequence-length : length sequence ≡ count
   sequence-length = length-take-le count placed (omega (arith, count_fits, length-append front (drop c.wide-n.result zeros)))
 
   planned-here : plan (site_of site) ≡ planned order sequence
   unfolding scheduled_as
-  planned-here = as_scheduled (c.place_clusters-schedule.ensures _ c.figures_of.ensures) c.in-Made.is ∙ ap (planned order) (sym (take-append-le count front (drop c.wide-n.result zeros) count_fits))
+  planned-here = as_scheduled (c.place_clusters-schedule.ensures _ c.figures_of.ensures) c.in-Ok.is ∙ ap (planned order) (sym (take-append-le count front (drop c.wide-n.result zeros) count_fits))
 
   placed-here : Placed site sequence
   placed-here =
@@ -126,7 +129,7 @@ module _ (c : In-Made) where
   text-size = size_is ∙ sym (plan_text_size site c.requires order sequence planned-here)
 
 -- in a turn of the second loop: cluster k of the sequence
-module _ (made : In-Made) (k : ℕ) (running : k < made.in-Made.count) where
+module _ (made : In-Ok) (k : ℕ) (running : k < made.in-Ok.field-0.count) where
   abbrev cluster : Cluster
   cluster = get_or (site made).clusters (number_in (sequence made) k) absent
 
@@ -159,7 +162,7 @@ module _ (made : In-Made) (k : ℕ) (running : k < made.in-Made.count) where
     line start e = rw number_is (line_here (site made) (sequence made) (placed-here made) k turn _ _ _ index e placed-portion)
 
 -- the lines that are put so far are those of the records
-written : (made : In-Made) (old : List ℕ) (behind : ℕ) (room : List ℕ) (length start k : ℕ)
+written : (made : In-Ok) (old : List ℕ) (behind : ℕ) (room : List ℕ) (length start k : ℕ)
     → Written (plan_line (flowless (site made).clusters made.wide-n.result) (sequence made)) (portion_of (site_of (flowless (site made).clusters made.wide-n.result))) (sequence made) old behind room length start k
     → Written (plan_line (site made) (sequence made)) (portion_of (site_of (site made))) (sequence made) old behind room length start k
 written made old behind room length start k h = rw (same_lines (site made) made.wide-n.result made.wide-n.ensures.0 (sequence made), same-portions (site made) made.wide-n.result made.wide-n.ensures.0) at h
@@ -226,17 +229,17 @@ unfolding sum_over
 loop-k-init c = (putting_starts _ _ _ _ _, refl, search rules)
 
 pub bounds-placed-k : goal.bounds-placed-k
-bounds-placed-k c = let made = (goal.at.bounds-placed-k c).In-Made in omega (arith, turn made c.loop-k.k c.loop-k-test.true, (placed-here made).short)
+bounds-placed-k c = let made = (goal.at.bounds-placed-k c).In-Ok in omega (arith, turn made c.loop-k.k c.loop-k-test.true, (placed-here made).short)
 
 pub offset_bounds-clusters-c : goal.offset_bounds-clusters-c
-offset_bounds-clusters-c c = omega (arith, c.wide-c.ensures.0, in_array (goal.at.offset_bounds-clusters-c c).In-Made c.loop-k.k c.loop-k-test.true)
+offset_bounds-clusters-c c = omega (arith, c.wide-c.ensures.0, in_array (goal.at.offset_bounds-clusters-c c).In-Ok c.loop-k.k c.loop-k-test.true)
 
 pub bounds-clusters-c : goal.bounds-clusters-c
-bounds-clusters-c c = omega (arith, c.wide-c.ensures.0, in_array (goal.at.bounds-clusters-c c).In-Made c.loop-k.k c.loop-k-test.true)
+bounds-clusters-c c = omega (arith, c.wide-c.ensures.0, in_array (goal.at.bounds-clusters-c c).In-Ok c.loop-k.k c.loop-k-test.true)
 
 pub put_cluster-length-requires : goal.put_cluster-length-requires
 put_cluster-length-requires c =
-    let made = (goal.at.put_cluster-length-requires c).In-Made in
+    let made = (goal.at.put_cluster-length-requires c).In-Ok in
     let k = c.loop-k.k in
     let running = c.loop-k-test.true in
     let header = c.put_header-length.ensures in
@@ -258,7 +261,7 @@ put_cluster-length-requires c =
 
 pub overflow_add-start : goal.overflow_add-start
 overflow_add-start c =
-    let made = (goal.at.overflow_add-start c).In-Made in
+    let made = (goal.at.overflow_add-start c).In-Ok in
     let k = c.loop-k.k in
     let running = c.loop-k-test.true in
     omega (
@@ -270,11 +273,11 @@ overflow_add-start c =
     )
 
 pub overflow_add-k : goal.overflow_add-k
-overflow_add-k c = let made = (goal.at.overflow_add-k c).In-Made in omega (arith, turn made c.loop-k.k c.loop-k-test.true, (placed-here made).short)
+overflow_add-k c = let made = (goal.at.overflow_add-k c).In-Ok in omega (arith, turn made c.loop-k.k c.loop-k-test.true, (placed-here made).short)
 
 pub loop-k-preserved : goal.loop-k-preserved
 loop-k-preserved c =
-    let made = (goal.at.loop-k-preserved c).In-Made in
+    let made = (goal.at.loop-k-preserved c).In-Ok in
     let k = c.loop-k.k in
     let running = c.loop-k-test.true in
     let so_far = written made c.put_header-length.new.room c.put_header-length.result c.loop-k.room c.loop-k.length c.loop-k.start k c.loop-k.invariant in
@@ -293,34 +296,36 @@ loop-k-preserved c =
 
 pub returns-then-room-size : goal.returns-then-room-size
 returns-then-room-size c =
-    let made = (goal.at.returns-then-room-size c).In-Made in
+    let made = (goal.at.returns-then-room-size c).In-Ok in
     let room = c.args.room.now in
     let short : length room < length (text made) = omega (arith, c.if-room-size.true, text-size made) in
     (c.refused-then-room-size.ensures ∙ rw (planned-here made, lt-leb _ _ short), rw (planned-here made) (sym (short_handed room (text made) short)))
 
 pub put_header-length-requires : goal.put_header-length-requires
 put_header-length-requires c =
-    let made = (goal.at.put_header-length-requires c).In-Made in
+    let made = (goal.at.put_header-length-requires c).In-Ok in
     omega (arith, c.if-room-size.false, text-size made, header-length (order made) (site made).cluster_count, text-length (site made) (order made) (sequence made))
 
-pub returns-in-NoFit : goal.returns-in-NoFit
+pub returns-in-Err-NoFit : goal.returns-in-Err-NoFit
 unfolding scheduled_as
-returns-in-NoFit c =
-    let none = as_scheduled (c.place_clusters-schedule.ensures _ c.figures_of.ensures) c.in-NoFit.is in
+returns-in-Err-NoFit c =
+    let why : c.place_clusters-schedule.result ≡ Err NoFit = c.in-Err-NoFit.is ∙ ap Err (rw c.in-Err-NoFit.is at c.in-Err-NoFit.field-0-is) in
+    let none = as_scheduled (c.place_clusters-schedule.ensures _ c.figures_of.ensures) why in
     (c.refused.ensures ∙ rw none, rw none)
 
-pub returns-in-NoPlacing : goal.returns-in-NoPlacing
+pub returns-in-Err-NoPlacing : goal.returns-in-Err-NoPlacing
 unfolding scheduled_as
-returns-in-NoPlacing c =
-    let none = as_scheduled (c.place_clusters-schedule.ensures _ c.figures_of.ensures) c.in-NoPlacing.is in
-    (c.refused-in-NoPlacing.ensures ∙ rw none, rw none)
+returns-in-Err-NoPlacing c =
+    let why : c.place_clusters-schedule.result ≡ Err NoPlacing = c.in-Err-NoPlacing.is ∙ ap Err (rw c.in-Err-NoPlacing.is at c.in-Err-NoPlacing.field-0-is) in
+    let none = as_scheduled (c.place_clusters-schedule.ensures _ c.figures_of.ensures) why in
+    (c.refused-in-Err-NoPlacing.ensures ∙ rw none, rw none)
 
 pub shape_of-room : goal.shape_of-room
 shape_of-room c = c.loop-k.invariant.0.same_length ∙ c.put_header-length.auto.room
 
 pub returns-after-loop-k : goal.returns-after-loop-k
 returns-after-loop-k c =
-    let made = (goal.at.returns-after-loop-k c).In-Made in
+    let made = (goal.at.returns-after-loop-k c).In-Ok in
     let room = c.args.room.now in
     let header = c.put_header-length.ensures in
     let behind = c.put_header-length.result in
