@@ -95,7 +95,7 @@ def refusal(crate, words):
         if not FOLLOWS.match(found[4]):
             return place(found[1]), found[3], found[1] + ':' + found[2], found[4]
     # of a goal without an answer: `note: PATH:LINE:COLUMN: WORDS (`GOAL`)`
-    if found := re.match(r'note: ([^ ]+\.rt):(\d+):\d+: ([^`]*[^` ]) ?\(`([^`]*)`?', text):
+    if found := re.match(r'note: ([^ ]+\.rt):(\d+):\d+: (.*?[^` ]) ?\(`([^`]*)`?', text):
         return function_at(crate, found[1], int(found[2])), found[4], found[1] + ':' + found[2], found[3]
     return 'no refusal can be read from it: ' + text
 

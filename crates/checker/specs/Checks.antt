@@ -7,9 +7,10 @@ use Rattle.model.specs.Counting.{member, all_below}
 use Rattle.model.specs.Orders.{interval, permitted}
 use Rattle.model.specs.Sites.{periods}
 use Rattle.site.specs.declared.Site.{Site}
-use Rattle.site.specs.declared.Verdict.{Verdict}
-use Rattle.site.specs.declared.Verdict.TheVariants.{Refused}
-use Rattle.site.specs.Fields.{no_place}
+use Rattle.std.specs.Prelude.{Err}
+use Rattle.site.specs.Refusals.{Verdict}
+use Rattle.site.specs.Told.{refusal}
+use Rattle.site.specs.Told.{no_place}
 use Rattle.site.specs.Records.{absent}
 use Rattle.site.specs.Table.{refused_if, or_else, first_of}
 use Rattle.records.specs.Check.{checked}
@@ -67,7 +68,7 @@ flow_late s h ls = some_late (site_of s) (header_order h) (start_among ls)
 
 -- what is said of the lines of a plan text; 20 where there is none
 unfoldable pub plan_verdict : Site → List Row → Verdict
-plan_verdict s [] = Refused 20 0 no_place
+plan_verdict s [] = Err (refusal 20 0 no_place)
 plan_verdict s (h ∷ ls) =
     first_of (
     refused_if 20 0 (layout_broken h ls)

@@ -1,12 +1,11 @@
 -- What the walk over the lines of a plan keeps (docs/FORMATS.md, "Checking a plan"). It asks each line once, and compares a portion with that of the line above only.
-use Rattle.std.specs.Prelude.{◌≡◌, Bool, true, false, cond, not, ◌||◌, List, [], ◌∷◌, map, ℕ, ◌<◌, ltb, length, get_or}
+use Rattle.std.specs.Prelude.{◌≡◌, Option, Some, None, Bool, true, false, cond, not, ◌||◌, List, [], ◌∷◌, map, ℕ, ◌<◌, ltb, length, get_or}
 use Rattle.hexline.specs.Lines.{Row, any_of}
 use Rattle.model.specs.Counting.{at, member}
 use Rattle.site.specs.declared.Site.{Site}
 use Rattle.planlines.specs.PlanLines.{bad_cluster, cluster_start}
 use Rattle.planlines.specs.PlanRead.{start_among}
 use Rattle.checker.specs.declared.Walked.{Walked}
-use Rattle.checker.specs.declared.Walked.TheVariants.{Broken, Lines}
 use Rattle.checker.specs.Checks.{wrong_lines, cluster_end}
 
 -- of the lines below one that ends at `until`: a portion starts before the line above ends, or ends past the interval p
@@ -18,16 +17,16 @@ next_overlaps p until (r ∷ rs) = ltb (cluster_start r.chars) until || (ltb p (
 abbrev pub some_broken : List Row → Bool
 some_broken ls = any_of (map bad_cluster ls)
 
--- what the lines come to at the interval p
-unfoldable pub walked : Site → ℕ → List Row → Walked
-walked s p ls = cond (some_broken ls) Broken (Lines (not (wrong_lines s [] 0 ls)) (not (next_overlaps p 0 ls)))
+-- what the lines come to at the interval p; none if one of them breaks the layout
+unfoldable pub walked : Site → ℕ → List Row → Option Walked
+walked s p ls = cond (some_broken ls) None (Some (record { right = not (wrong_lines s [] 0 ls); apart = not (next_overlaps p 0 ls) }))
 
 -- the starts are those that the lines give
 abbrev pub StartsOf : Site → List Row → List ℕ → Type 0
 StartsOf s ls starts = (c : ℕ) → c < s.cluster_count → at starts c ≡ start_among ls c
 
 -- what the walk over all lines has at its end: what they come to, and, where no line breaks the layout or is wrong, their starts
-pub record Passed (s : Site) (p : ℕ) (ls : List Row) (answer : Walked) (starts : List ℕ) : Type 0 where
+pub record Passed (s : Site) (p : ℕ) (ls : List Row) (answer : Option Walked) (starts : List ℕ) : Type 0 where
   pub told : answer ≡ walked s p ls
   pub kept : some_broken ls ≡ false → wrong_lines s [] 0 ls ≡ false → StartsOf s ls starts
 

@@ -1,5 +1,5 @@
 -- Laws of the walk: it starts with all lines, a line that keeps the layout is taken, and with none left it has what the lines come to.
-use Rattle.std.specs.Prelude.{◌≡◌, refl, Bool, false, cond, ◌&&◌, ◌||◌, List, [], ◌∷◌, ℕ, ◌+◌, ◌≤◌, ◌<◌, leb, ltb, eqb, length, set, replicate}
+use Rattle.std.specs.Prelude.{◌≡◌, refl, Option, Some, None, Bool, false, cond, ◌&&◌, ◌||◌, List, [], ◌∷◌, ℕ, ◌+◌, ◌≤◌, ◌<◌, leb, ltb, eqb, length, set, replicate}
 use Rattle.std.proofs.Math.Path.{sym, ap}
 use Rattle.std.proofs.Common.{◌∙◌, true≢false, inl, inr, arith, length-set, get_or-set_same, get_or-set_other, le-leb, lt-ltb, le-ltb, leb-true, leb-false, eqb-true}
 use Rattle.std.proofs.Math.Bool.{true, not, or-true, or_assoc, or-false, not-not}
@@ -14,7 +14,7 @@ use Rattle.site.specs.Records.{absent}
 use Rattle.planlines.specs.PlanLines.{bad_cluster, cluster_number, cluster_start, describes}
 use Rattle.planlines.specs.PlanRead.{start_among}
 use Rattle.planlines.specs.SaidLaws.{LineSays, start_here, start_behind}
-use Rattle.checker.specs.declared.Walked.TheVariants.{Broken, Lines}
+use Rattle.checker.specs.declared.Walked.{Walked}
 use Rattle.checker.specs.Checks.{wrong_line, wrong_lines, cluster_end}
 use Rattle.checker.specs.Passing.{next_overlaps, some_broken, walked, StartsOf, Passing, Passed}
 
@@ -28,14 +28,14 @@ le_not_lt a b = elim (passes_or_fails (leb a b)) [
 ]
 
 -- of what must hold and what must not, something is found wrong: in one test as the walk makes it, and in a list of tests
-some_found : (a b c d : Bool) → not (a && not b && c && not d) ≡ (not a || (b || (not c || (d || false))))
+some_found : (a b c d : Bool) → not (a && (not b && c && not d)) ≡ (not a || (b || (not c || (d || false))))
 some_found false b c d = refl
 some_found true true c d = refl
 some_found true false false d = refl
 some_found true false true true = refl
 some_found true false true false = refl
 
-some_found_or : (a b c d : Bool) → (not (a && not b && not c) || d) ≡ (not a || (b || (c || d)))
+some_found_or : (a b c d : Bool) → (not (a && (not b && not c)) || d) ≡ (not a || (b || (c || d)))
 some_found_or false b c d = refl
 some_found_or true true c d = refl
 some_found_or true false true d = refl
@@ -71,7 +71,7 @@ module _ (s : Site) (p : ℕ) (all : List Row) (r : Row) (rs : List Row) (right 
 
   -- the portion with the one above
   abbrev now_apart : Bool
-  now_apart = apart && leb until start && leb (cluster_end l) p
+  now_apart = apart && (leb until start && leb (cluster_end l) p)
 
   layout_taken : some_broken rs ≡ some_broken all
   layout_taken = rw formed at w.layout
@@ -97,7 +97,7 @@ module _ (s : Site) (p : ℕ) (all : List Row) (r : Row) (rs : List Row) (right 
   -- its cluster is one of the site's: it is asked whether it is new and described, and whether it starts where the line above does or later
   module _ (few : s.cluster_count ≤ 64) (known : number < s.cluster_count) (described : Bool) (told : described ≡ describes l (get_or s.clusters number absent)) where
     abbrev now_right : Bool
-    now_right = right && not (get_or seen number false) && described && leb last start
+    now_right = right && (not (get_or seen number false) && described && leb last start)
 
     lines_taken : (not now_right || wrong_lines s (number ∷ w.above) start rs) ≡ wrong_lines s [] 0 all
     unfolding wrong_lines wrong_line
@@ -108,9 +108,10 @@ module _ (s : Site) (p : ℕ) (all : List Row) (r : Row) (rs : List Row) (right 
 
     kept_taken : now_right ≡ true → (c : ℕ) → c < s.cluster_count → cond (member c (number ∷ w.above)) (at (set starts number start) c) (start_among rs c) ≡ start_among all c
     kept_taken e c h =
-        let before = and_both right (not (get_or seen number false)) (and_both _ described (and_both _ (leb last start) e).0).0 in
-        let new : member number w.above ≡ false = sym (w.marks number known) ∙ not-true (get_or seen number false) before.1 in
-        let was = w.kept before.0 c h in
+        let both = and_both right _ e in
+        let unseen = (and_both (not (get_or seen number false)) described (and_both _ (leb last start) both.1).0).0 in
+        let new : member number w.above ≡ false = sym (w.marks number known) ∙ not-true (get_or seen number false) unseen in
+        let was = w.kept both.0 c h in
         elim (passes_or_fails (eqb c number)) [
           | inl same ↦ let q = eqb-true c number same in
               rw (same, q, get_or-set_same starts number start 0 (omega (arith, w.start_room))) (sym (start_here r formed rs) ∙ (rw (q, new) at was))
@@ -136,19 +137,19 @@ module _ (s : Site) (p : ℕ) (all : List Row) (r : Row) (rs : List Row) (right 
 -- the line by what its fields say
 module _ (s : Site) (p : ℕ) (all : List Row) (r : Row) (rs : List Row) (right apart : Bool) (last until : ℕ) (seen : List Bool) (starts : List ℕ)
     (w : Passing s p all (r ∷ rs) right apart last until seen starts) where
-  pub passing_broken : bad_cluster r ≡ true → (any : List ℕ) → Passed s p all Broken any
+  pub passing_broken : bad_cluster r ≡ true → (any : List ℕ) → Passed s p all None any
   unfolding walked
   passing_broken broken any =
       let found : some_broken all ≡ true = sym w.layout ∙ rw broken in
       record { told = rw found; kept = λ formed. absurd (true≢false (sym found ∙ formed)) }
 
   module _ (number start len tag : ℕ) (said : LineSays r number start len tag) where
-    pub passing_unknown : s.cluster_count ≤ number → Passing s p all rs false (apart && leb until start && leb (start + len) p) start (start + len) seen starts
+    pub passing_unknown : s.cluster_count ≤ number → Passing s p all rs false (apart && (leb until start && leb (start + len) p)) start (start + len) seen starts
     passing_unknown beyond =
         rw (said.starts, said.long) at (taken_unknown s p all r rs right apart last until seen starts w said.formed (rw said.numbered beyond))
 
     pub passing_known : s.cluster_count ≤ 64 → number < s.cluster_count → (described : Bool) → described ≡ describes r.chars (get_or s.clusters number absent)
-        → Passing s p all rs (right && not (get_or seen number false) && described && leb last start) (apart && leb until start && leb (start + len) p) start (start + len)
+        → Passing s p all rs (right && (not (get_or seen number false) && described && leb last start)) (apart && (leb until start && leb (start + len) p)) start (start + len)
         (set seen number true) (set starts number start)
     passing_known few known described told =
         rw (said.numbered, said.starts, said.long) at
@@ -170,7 +171,7 @@ module _ (s : Site) (p : ℕ) (all : List Row) (right apart : Bool) (last until 
   unfolding wrong_lines
   right_at_end = rw (all_below_same s.cluster_count (λ c. get_or seen c false) (λ c. member c w.above) w.marks) (neither_fails right _ ∙ ap not w.lines)
 
-  walked_through : Lines (right && all_seen) apart ≡ walked s p all
+  walked_through : ◌≡◌ {A = Option Walked} (Some (record { right = right && all_seen; apart = apart })) (walked s p all)
   unfolding walked next_overlaps
   walked_through = rw (← w.layout, ← right_at_end, ← w.portions, or-false (not apart), not-not apart)
 
@@ -181,5 +182,5 @@ module _ (s : Site) (p : ℕ) (all : List Row) (right apart : Bool) (last until 
       let above = each_below s.cluster_count (λ x. member x w.above) (not-false _ none.1) c h in
       rw above at (w.kept (not-false right none.0) c h)
 
-  pub passing_ends : Passed s p all (Lines (right && all_seen) apart) starts
+  pub passing_ends : Passed s p all (Some (record { right = right && all_seen; apart = apart })) starts
   passing_ends = record { told = walked_through; kept = λ formed. starts_read }

@@ -2,179 +2,121 @@
 // it, and out whether the text is a plan for the site.
 #![tactic(auto)]
 
-ghost use Rattle.std.specs.Prelude.{◌≡◌, false, ◌∷◌, ◌≤◌, length, drop, get_or};
+ghost use Rattle.std.specs.Prelude.{◌≡◌, false, ◌∷◌, ◌≤◌, length, get_or};
 ghost use Rattle.hexline.specs.Lines.{Row, rows};
 ghost use Rattle.model.specs.Counting.{all_below};
-ghost use Rattle.records.specs.Check.{checked};
-ghost use Rattle.site.specs.declared.Verdict.TheVariants.{Accepted};
 ghost use Rattle.planlines.specs.SaidLaws.{HeaderSays};
 ghost use Rattle.checker.specs.Checks.{plan_verdict, checked_plan};
 ghost use Rattle.checker.specs.Passing.{Passed};
 
-use model::{Order, wide};
-use planlines::{PlanHeader, PlanLine};
-use site::{NO_PLACE, Site, Verdict};
+use model::Order;
+use planlines::PlanHeader;
+use records::Accepted;
+use site::{Reason, Refusal, Site};
 
-// What the lines behind a plan's header come to: one breaks the layout, or it is known whether each of
-// the site's clusters has its line, by rising starts, and whether each portion starts where the one
-// above ends or later and ends inside the interval.
-#[derive(Drop)]
-enum Walked {
-    Broken,
-    Lines { right: bool, apart: bool },
+// What the lines behind a plan's header come to, where none breaks the layout: whether each of the
+// site's clusters has its line, by rising starts, and whether each portion starts where the one above
+// ends or later and ends inside the interval.
+#[derive(Clone, Copy)]
+struct Walked {
+    right: bool,
+    apart: bool,
 }
 
-// A refusal of the plan: it names no line and no field.
-fn refused(number: u8) -> Verdict
-    ensures { result ≡ Verdict.Refused number 0 255 }
-{
-    Verdict::Refused {
-        number,
-        line: 0,
-        place: NO_PLACE,
-    }
-}
-
-// Whether each of the first n clusters was seen.
+// Whether each of the first n clusters was seen. All are asked, without a branch.
 fn all_seen(seen: &[bool; 64], n: usize) -> bool
     requires { n ≤ 64 }
     ensures { result ≡ all_below n (λ c. get_or seen.now c false) }
 {
-    let mut all = true;
-    let mut c: usize = 0;
-    while c < n {
-        all = seen[c] & all;
-        c += 1;
-    }
-    all
+    seen[..n].iter().fold(true, |all, &was| all & was)
 }
 
-// What the lines from `behind` on come to, at an interval. They are walked once: each is asked for its
-// layout, its cluster and whether it starts where the line above ends or later, and its start is kept
-// in `starts`. No line's end is looked for: one that keeps the layout ends where its tag length says.
+// What lines come to at an interval; none if one of them breaks the layout. They are walked once: each
+// is asked for its layout, its cluster and whether it starts where the line above ends or later, and its
+// start is kept in `starts`. That its tag has digits only is known where the tag is the cluster's.
 // Ends have eight bytes: a start may be as large as four bytes allow.
-fn walk_lines(
-    site: Site,
-    plan: &[u8],
-    behind: usize,
-    interval: u64,
-    starts: &mut [u32; 64],
-) -> Walked
-    requires { (checked site ≡ Accepted) × (length starts.old ≡ 64) }
-    ensures { Passed site interval (rows (drop behind plan.now)) result starts.new }
+fn walk_lines(site: Accepted, lines: &[u8], interval: u64, starts: &mut [u32; 64]) -> Option<Walked>
+    ensures { Passed site.entry.site.now interval (rows lines.now) result starts.new }
 {
-    let n = wide(site.cluster_count);
-    let clusters = site.clusters;
+    let clusters = site.clusters();
     let mut seen = [false; 64];
     let mut right = true;
     let mut apart = true;
-    let mut last: u32 = 0;
-    let mut until: u64 = 0;
-    let mut at = behind;
-    while at < plan.len() {
-        let rest = &plan[at..];
-        let read = planlines::front_line(rest);
-        match read {
-            None => return Walked::Broken,
-            Some(line) => {
-                let PlanLine {
-                    number,
-                    start,
-                    length,
-                    len,
-                } = line;
-                let begins = start as u64;
-                let ends = begins + length as u64;
-                let next = at + 23 + 2 * wide(len);
-                apart = apart & (until <= begins) & (ends <= interval);
-                if number < site.cluster_count {
-                    let c = wide(number);
-                    let cluster = &clusters[c];
-                    let described = planlines::describes(cluster, rest, length, len);
-                    if !described {
-                        if !planlines::is_tag_whole(rest, len) {
-                            return Walked::Broken;
-                        }
-                    }
-                    right = right & !seen[c] & described & (last <= start);
-                    seen[c] = true;
-                    starts[c] = start;
-                } else {
-                    if !planlines::is_tag_whole(rest, len) {
-                        return Walked::Broken;
-                    }
-                    right = false;
-                }
-                last = start;
-                until = ends;
-                at = next;
-            }
+    let mut last = 0;
+    let mut until = 0;
+    let mut rest = lines;
+    // No iterator finds the lines: one that keeps the layout ends where its tag length says.
+    while !rest.is_empty() {
+        let line = planlines::front_line(rest)?;
+        let number = usize::from(line.number);
+        let described = clusters.get(number).is_some_and(|cluster| {
+            planlines::describes(cluster, rest, line.length, line.len)
+        });
+        if !described && !planlines::is_tag_whole(rest, line.len) {
+            return None;
         }
+        let begins = u64::from(line.start);
+        let ends = begins + u64::from(line.length);
+        apart &= (until <= begins) & (ends <= interval);
+        if number < clusters.len() {
+            right &= !seen[number] & described & (last <= line.start);
+            seen[number] = true;
+            starts[number] = line.start;
+        } else {
+            right = false;
+        }
+        last = line.start;
+        until = ends;
+        rest = &rest[23 + 2 * usize::from(line.len)..];
     }
-    Walked::Lines {
-        right: right & all_seen(&seen, n),
+    Some(Walked {
+        right: right & all_seen(&seen, clusters.len()),
         apart,
-    }
+    })
 }
 
-// What is said of the lines from `behind` on, below a header with that order and that number of
-// clusters. What decides by a higher number waits until the last line keeps the layout.
-fn check_lines(site: Site, plan: &[u8], behind: usize, order: u8, clusters_told: u8) -> Verdict
-    requires { checked site ≡ Accepted }
-    ensures { (h : Row) → HeaderSays h order clusters_told → result ≡ plan_verdict site (h ∷ rows (drop behind plan.now)) }
+// What is said of the lines below a header. What decides by a higher number waits until the last line
+// keeps the layout.
+fn check_lines(site: Accepted, header: PlanHeader, lines: &[u8]) -> Result<(), Refusal>
+    ensures { (h : Row) → HeaderSays h header.order header.clusters → result ≡ plan_verdict site.entry.site.now (h ∷ rows lines.now) }
 {
-    let interval = Order::new(order).interval() as u64;
-    let mut starts = [0u32; 64];
-    let walked = walk_lines(site, plan, behind, interval, &mut starts);
-    match walked {
-        Walked::Broken => refused(20),
-        Walked::Lines { right, apart } => {
-            if !deadlines::permits(site, order) {
-                return refused(21);
-            }
-            if !(right & (clusters_told == site.cluster_count)) {
-                return refused(22);
-            }
-            if !apart {
-                return refused(23);
-            }
-            if !deadlines::all_on_time(site, order, &starts) {
-                return refused(24);
-            }
-            Verdict::Accepted
-        }
+    let interval = u64::from(Order::new(header.order).interval());
+    let mut starts = [0; 64];
+    let Some(walked) = walk_lines(site, lines, interval, &mut starts) else {
+        return Err(Reason::BrokenPlan.in_line(0));
+    };
+    if !deadlines::permits(site, header.order) {
+        return Err(Reason::PlanOrder.in_line(0));
     }
+    if !(walked.right & (header.clusters == site.site.cluster_count)) {
+        return Err(Reason::PlanClusters.in_line(0));
+    }
+    if !walked.apart {
+        return Err(Reason::PlanOverlap.in_line(0));
+    }
+    if !deadlines::all_on_time(site, header.order, &starts) {
+        return Err(Reason::PlanLate.in_line(0));
+    }
+    Ok(())
 }
 
-// What is said of a plan text for accepted records: 20 to 24 with line 0, or that it is a plan.
-pub fn check_accepted(site: Site, plan: &[u8]) -> Verdict
-    requires { checked site ≡ Accepted }
-    ensures { result ≡ plan_verdict site (rows plan.now) }
+// What is said of a plan text for accepted records: a refusal in line 0, or that it is a plan.
+#[tactic(auto, using(crate::proofs::FirstLine::first_inside, crate::proofs::FirstLine::first_broken, crate::proofs::FirstLine::first_ended))]
+pub fn check_accepted(site: Accepted, plan: &[u8]) -> Result<(), Refusal>
+    ensures { result ≡ plan_verdict site.entry.site.now (rows plan.now) }
 {
-    if plan.len() == 0 {
-        return refused(20);
-    }
     let end = hexline::line_end(plan, 0);
-    let header = planlines::header_line(&plan[..end], end < plan.len());
-    match header {
-        None => refused(20),
-        Some(PlanHeader { order, clusters }) => {
-            check_lines(site, plan, end + 1, order, clusters)
-        }
-    }
+    let Some(header) = planlines::header_line(&plan[..end], end < plan.len()) else {
+        return Err(Reason::BrokenPlan.in_line(0));
+    };
+    check_lines(site, header, &plan[end + 1..])
 }
 
 // Whether a text is a plan for a site. Records that `check` refuses are refused alike.
-pub fn check_plan(site: Site, plan: &[u8]) -> Verdict
-    ensures { result ≡ checked_plan site plan.now }
+#[tactic(auto, unfolding(crate::specs::Checks::checked_plan))]
+pub fn check_plan(site: &Site, plan: &[u8]) -> Result<(), Refusal>
+    ensures { result ≡ checked_plan site.now plan.now }
 {
-    let verdict = records::check(site);
-    match verdict {
-        Verdict::Refused {
-            number: _,
-            line: _,
-            place: _,
-        } => verdict,
-        Verdict::Accepted => check_accepted(site, plan),
-    }
+    records::check(site)?;
+    check_accepted(Accepted { site }, plan)
 }

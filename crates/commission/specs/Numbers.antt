@@ -1,18 +1,15 @@
 -- What the C functions give back for any text, and the room after them (docs/FORMATS.md, "The program and the C functions"): the length written, or
 -- 65,536 times the refusal and the line; 0 for a plan that is one; and the place of a refusal.
-use Rattle.std.specs.Prelude.{◌≡◌, List, [], ◌∷◌, ℕ, ◌+◌, ◌*◌, length}
+use Rattle.std.specs.Prelude.{List, [], ◌∷◌, ℕ, ◌+◌, ◌*◌, Ok, Err}
 use Rattle.site.specs.declared.Site.{Site}
-use Rattle.site.specs.declared.Verdict.{Verdict}
-use Rattle.site.specs.declared.Verdict.TheVariants.{Accepted, Refused}
-use Rattle.site.specs.Fields.{no_place}
+use Rattle.site.specs.Refusals.{Verdict}
+use Rattle.site.specs.Told.{refusal, no_place}
 use Rattle.site.specs.Answers.{Answer, gives, refuses, verdict_says, or_next}
 use Rattle.reader.specs.Reading.{read_text}
 use Rattle.records.specs.Check.{checked}
 use Rattle.writer.specs.Text.{text_of, written_says, written, room_after as written_room}
 use Rattle.planner.specs.Answers.{planned_says, answer, room_after}
 use Rattle.checker.specs.Checks.{checked_plan}
-use Rattle.commission.specs.declared.Errand.{Errand}
-use Rattle.commission.specs.declared.Errand.TheVariants.{Plan, Rewrite, Place, Check}
 
 -- an answer as one number: the first value that it gives, which is a length, or the refusal
 abbrev pub number_of : Answer → ℕ
@@ -22,13 +19,13 @@ number_of (refuses number line place) = 65536 * number + line
 
 -- the place that a verdict tells
 abbrev pub place_told : Verdict → ℕ
-place_told (Refused number line place) = place
-place_told Accepted = no_place
+place_told (Err (refusal number line place)) = place
+place_told (Ok _) = no_place
 
 -- a room after the reader's verdict: as it was, or as the records leave it
 abbrev room_by : Verdict → List ℕ → List ℕ → List ℕ
-room_by (Refused number line place) room after = room
-room_by Accepted room after = after
+room_by (Err (refusal number line place)) room after = room
+room_by (Ok _) room after = after
 
 -- `cartheron_plan`: the reader's refusal, else the planner's answer to the records
 unfoldable pub plan_number : List ℕ → ℕ → ℕ
@@ -53,10 +50,3 @@ place_number text = place_told (read_text text).verdict
 -- `cartheron_check`: the reader's refusal, else what the checker says of the plan for the records; 0 where it is one (request 2026-02)
 unfoldable pub check_number : List ℕ → List ℕ → ℕ
 check_number text plan = number_of (or_next (verdict_says (read_text text).verdict) (verdict_says (checked_plan (read_text text).site plan)))
-
--- a number for a text and a plan, and a room before and after it, are what is given for an errand
-abbrev pub Done : Errand → List ℕ → List ℕ → List ℕ → ℕ → List ℕ → Type 0
-Done Plan text plan before number after = (number ≡ plan_number text (length before)) × (after ≡ plan_room text before)
-Done Rewrite text plan before number after = (number ≡ rewrite_number text (length before)) × (after ≡ rewrite_room text before)
-Done Place text plan before number after = (number ≡ place_number text) × (after ≡ before)
-Done Check text plan before number after = (number ≡ check_number text plan) × (after ≡ before)

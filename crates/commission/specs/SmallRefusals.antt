@@ -1,5 +1,5 @@
 -- The reader's refusals are small: one of the site's own numbers, at a line of at most 194, which is the line after the last of the largest site.
-use Rattle.std.specs.Prelude.{◌≡◌, refl, true, not, List, [], ◌∷◌, ℕ, ◌+◌, ◌≤◌, eqb}
+use Rattle.std.specs.Prelude.{◌≡◌, refl, true, not, List, [], ◌∷◌, ℕ, ◌+◌, ◌≤◌, eqb, Ok, Err}
 use Rattle.std.proofs.Common.{inl, inr, arith}
 use Rattle.std.proofs.lemmas.Bool.{eqb-false}
 use Rattle.hexline.specs.Loops.{decide}
@@ -7,8 +7,8 @@ use Rattle.hexline.specs.Digits.{byte_at}
 use Rattle.hexline.specs.Lines.{Row, rows}
 use Rattle.hexline.specs.LineLaws.{none_of}
 use Rattle.site.specs.declared.Site.{Site}
-use Rattle.site.specs.declared.Verdict.{Verdict}
-use Rattle.site.specs.declared.Verdict.TheVariants.{Accepted, Refused}
+use Rattle.site.specs.Refusals.{Verdict, accepted}
+use Rattle.site.specs.Told.{refusal, number, line}
 use Rattle.site.specs.Records.{no_site}
 use Rattle.site.specs.FieldLaws.{header_counts}
 use Rattle.site.specs.Table.{due, wrong_kind, fields_verdict, own_number}
@@ -18,8 +18,8 @@ use Rattle.reader.specs.declared.Reading.{Reading}
 use Rattle.reader.specs.Reading.{with_header, with_cluster, with_flow, verdict_at, entered, onward, read_rows, read_text}
 
 abbrev pub Small : Verdict → Type 0
-Small Accepted = Unit {0}
-Small (Refused number line place) = (own_number number ≡ true) × (line ≤ 194)
+Small (Ok _) = Unit {0}
+Small (Err told) = (own_number (number told) ≡ true) × (line told ≤ 194)
 
 -- line k is the first, or the line before it was due
 record Reached (k : ℕ) (s : Site) : Type 0 where
@@ -31,7 +31,7 @@ reached_start : Reached 1 no_site
 unfolding no_site
 reached_start = record { clusters = omega arith; flows = omega arith; line = omega arith }
 
-reached_next : (k : ℕ) (s : Site) (r : Row) → Reached k s → verdict_at k s r ≡ Accepted → Reached (k + 1) (entered k s r.chars)
+reached_next : (k : ℕ) (s : Site) (r : Row) → Reached k s → verdict_at k s r ≡ accepted → Reached (k + 1) (entered k s r.chars)
 unfolding entered with_header with_cluster with_flow fields_verdict wrong_kind
 reached_next k s r h e =
     let n : ℕ = s.cluster_count in
@@ -47,9 +47,9 @@ reached_next k s r h e =
       | beyond p d ↦ absurd (eqb-false (due k n f) 0 (none_of (eqb (due k n f) 0 ∷ not (eqb (byte_at l 0) (due k n f)) ∷ []) passed.kind).0 d)
     ]
 
-line_small : (k : ℕ) (s : Site) (r : Row) (next : Reading) → Reached k s → (verdict_at k s r ≡ Accepted → Small next.verdict) → (v : Verdict) → verdict_at k s r ≡ v → Small (onward v next).verdict
-line_small k s r next h small Accepted e = small e
-line_small k s r next h small (Refused m a p) e =
+line_small : (k : ℕ) (s : Site) (r : Row) (next : Reading) → Reached k s → (verdict_at k s r ≡ accepted → Small next.verdict) → (v : Verdict) → verdict_at k s r ≡ v → Small (onward v next).verdict
+line_small k s r next h small (Ok _) e = small e
+line_small k s r next h small (Err (refusal m a p)) e =
     let own = line_refusal_own k s.cluster_count s.flow_count s.clusters r m a p e in
     (own.0, omega (arith, own.1, h.clusters, h.flows, h.line))
 

@@ -2,107 +2,89 @@
 // They take any bytes and any lengths.
 #![tactic(auto)]
 
-ghost use Rattle.std.specs.Prelude.{◌≡◌, ◌+◌, ◌*◌, ◌≤◌, length};
+ghost use Rattle.std.specs.Prelude.{◌≡◌, Err, length, IfOk, IfErr};
 ghost use Rattle.hexroom.specs.Room.{handed};
 ghost use Rattle.shown.specs.Shown.{line_start, line_at};
-ghost use Rattle.writer.specs.Text.{fitting};
-ghost use Rattle.commission.specs.Numbers.{plan_number, plan_room, rewrite_number, rewrite_room, place_number, check_number, Done};
+ghost use Rattle.site.specs.Records.{no_site};
+ghost use Rattle.reader.specs.Reading.{read_text, accepted as read_as};
+ghost use Rattle.writer.specs.Text.{written_says, fitting};
+ghost use Rattle.commission.specs.Numbers.{number_of, plan_number, plan_room, rewrite_number, rewrite_room, place_number, check_number};
+ghost use Rattle.commission.specs.NumberLaws.{SmallWriting};
 
-use planner::Planned;
-use site::{NO_PLACE, Verdict};
-use writer::Written;
+use reader::NO_SITE;
+use records::Accepted;
+use site::{Reason, Refusal, Site};
 
-// A refusal as one number.
-fn refusal_number(number: u8, line: usize) -> u32
-    requires { line ≤ 194 }
-    ensures { result ≡ 65536 * number + line }
+// Reads the records of a text into `site`, which is all zero, or gives the reader's refusal. What was read needs no second
+// check.
+fn read_accepted<'a>(text: &[u8], site: &'a mut Site) -> Result<Accepted<'a>, Refusal>
+    requires { site.old ≡ no_site }
+    ensures refused { IfErr result (λ told. (read_text text.now).verdict ≡ Err told) }
+    ensures taken { IfOk result (λ taken. read_text text.now ≡ read_as taken.site.now) }
 {
-    65536 * (number as u32) + line as u32
+    reader::read_into(text, site)?;
+    Ok(Accepted { site })
 }
 
 // Copies the text of an accepted site into the room, or refuses by 9 where the room is shorter. What is
 // written of the records that were read is the text itself (`write_of_read` of crate roundtrip), so no
 // line of it is made anew.
-fn give_back(text: &[u8], room: &mut [u8]) -> Written
-    ensures { (result ≡ fitting text.now (length room.old)) × (room.new ≡ handed text.now room.old) }
+fn give_back(text: &[u8], room: &mut [u8]) -> Result<usize, Refusal>
+    ensures answer { result ≡ fitting text.now (length room.old) }
+    ensures after { room.new ≡ handed text.now room.old }
 {
     if room.len() < text.len() {
-        return Written::Refused {
-            number: 9,
-            line: 0,
-            place: NO_PLACE,
-        };
+        return Err(Reason::ShortRoom.in_line(0));
     }
-    let length = text.len();
-    room[..length].copy_from_slice(text);
-    Written::Length(length)
+    room[..text.len()].copy_from_slice(text);
+    Ok(text.len())
 }
 
-// What a caller wants: of a site that reads its plan, its text or whether a plan is one for it, of a
-// refused one the place.
-#[derive(Drop)]
-enum Errand {
-    Plan,
-    Rewrite,
-    Place,
-    Check,
-}
-
-// Reads the site, and does what is wanted with its records: what was read needs no second check. The
-// four functions that read go through here, so that one frame serves the reader and what comes after
-// it.
-fn read_and(text: &[u8], plan: &[u8], room: &mut [u8], errand: Errand) -> u32
-    ensures { Done errand text.now plan.now room.old result room.new }
+// Plans the site, and answers the length of the plan text.
+#[tactic(auto, unfolding(site::specs::Records::no_site))]
+fn planned(text: &[u8], room: &mut [u8]) -> Result<usize, Refusal>
+    ensures small { SmallWriting result }
+    ensures number { number_of (written_says result) ≡ plan_number text.now (length room.old) }
+    ensures after { room.new ≡ plan_room text.now room.old }
 {
-    let reading = reader::read(text);
-    let verdict = reading.verdict;
-    match verdict {
-        Verdict::Refused {
-            number,
-            line,
-            place,
-        } => match errand {
-            Errand::Place => place as u32,
-            Errand::Plan => refusal_number(number, line),
-            Errand::Rewrite => refusal_number(number, line),
-            Errand::Check => refusal_number(number, line),
-        },
-        Verdict::Accepted => match errand {
-            Errand::Place => NO_PLACE as u32,
-            Errand::Plan => {
-                let answer = planner::plan_accepted(reading.site, room);
-                match answer {
-                    Planned::Plan { length, order: _ } => length as u32,
-                    Planned::Refused {
-                        number,
-                        line,
-                        place: _,
-                    } => refusal_number(number, line),
-                }
-            }
-            Errand::Rewrite => {
-                let written = give_back(text, room);
-                match written {
-                    Written::Length(length) => length as u32,
-                    Written::Refused {
-                        number,
-                        line,
-                        place: _,
-                    } => refusal_number(number, line),
-                }
-            }
-            Errand::Check => {
-                let checked = checker::check_accepted(reading.site, plan);
-                match checked {
-                    Verdict::Accepted => 0,
-                    Verdict::Refused {
-                        number,
-                        line,
-                        place: _,
-                    } => refusal_number(number, line),
-                }
-            }
-        },
+    let mut records = NO_SITE;
+    let site = read_accepted(text, &mut records)?;
+    let plan = planner::plan_accepted(site, room)?;
+    Ok(plan.length)
+}
+
+// Gives the site's text back, and answers its length.
+#[tactic(auto, unfolding(site::specs::Records::no_site))]
+fn rewritten(text: &[u8], room: &mut [u8]) -> Result<usize, Refusal>
+    ensures small { SmallWriting result }
+    ensures number { number_of (written_says result) ≡ rewrite_number text.now (length room.old) }
+    ensures after { room.new ≡ rewrite_room text.now room.old }
+{
+    let mut records = NO_SITE;
+    read_accepted(text, &mut records)?;
+    give_back(text, room)
+}
+
+// Checks a plan text for the site, and answers 0 where it is a plan.
+#[tactic(auto, unfolding(site::specs::Records::no_site))]
+fn passed(text: &[u8], plan: &[u8]) -> Result<usize, Refusal>
+    ensures small { SmallWriting result }
+    ensures number { number_of (written_says result) ≡ check_number text.now plan.now }
+{
+    let mut records = NO_SITE;
+    let site = read_accepted(text, &mut records)?;
+    checker::check_accepted(site, plan)?;
+    Ok(0)
+}
+
+// A length, or a refusal, as one number.
+fn as_number(answer: Result<usize, Refusal>) -> u32
+    requires { SmallWriting answer }
+    ensures { result ≡ number_of (written_says answer) }
+{
+    match answer {
+        Ok(length) => length as u32,
+        Err(refusal) => refusal.packed(),
     }
 }
 
@@ -111,7 +93,7 @@ fn read_and(text: &[u8], plan: &[u8], room: &mut [u8], errand: Errand) -> u32
 pub fn cartheron_plan(text: &[u8], room: &mut [u8]) -> u32
     ensures { (result ≡ plan_number text.now (length room.old)) × (room.new ≡ plan_room text.now room.old) }
 {
-    read_and(text, b"", room, Errand::Plan)
+    as_number(planned(text, room))
 }
 
 // Reads the site and writes its text into the room: the length written, or 65,536 x refusal + line
@@ -119,26 +101,27 @@ pub fn cartheron_plan(text: &[u8], room: &mut [u8]) -> u32
 pub fn cartheron_rewrite(text: &[u8], room: &mut [u8]) -> u32
     ensures { (result ≡ rewrite_number text.now (length room.old)) × (room.new ≡ rewrite_room text.now room.old) }
 {
-    read_and(text, b"", room, Errand::Rewrite)
+    as_number(rewritten(text, room))
 }
 
 // The place of the first bad field of a text that reading refuses by 10 to 14, and 255 for every other
 // text.
+#[tactic(auto, using(crate::specs::NumberLaws::place_refused, crate::specs::NumberLaws::place_taken), unfolding(site::specs::Records::no_site))]
 pub fn cartheron_place(text: &[u8]) -> u32
     ensures { result ≡ place_number text.now }
 {
-    let mut none = [0u8; 1];
-    let room: &mut [u8] = &mut none;
-    read_and(text, b"", room, Errand::Place)
+    let mut records = NO_SITE;
+    match reader::read_into(text, &mut records) {
+        Ok(()) => 255,
+        Err(refusal) => u32::from(refusal.place()),
+    }
 }
 
 // Whether a plan text, whoever wrote it, is a plan for the site: 0, or 65,536 x refusal + line.
 pub fn cartheron_check(text: &[u8], plan: &[u8]) -> u32
     ensures { result ≡ check_number text.now plan.now }
 {
-    let mut none = [0u8; 1];
-    let room: &mut [u8] = &mut none;
-    read_and(text, plan, room, Errand::Check)
+    as_number(passed(text, plan))
 }
 
 // Where the part begins that is shown for a line.

@@ -12,39 +12,21 @@ ghost use Rattle.model.specs.Sites.{size, parent, periods};
 ghost use Rattle.model.specs.Trees.{Tree};
 ghost use Rattle.tree.specs.Lineage.{Lineages};
 ghost use Rattle.plantext.specs.PlanText.{site_of};
-ghost use Rattle.records.specs.Check.{checked};
-ghost use Rattle.site.specs.declared.Verdict.TheVariants.{Accepted};
 ghost use Rattle.deadlines.specs.Late.{some_late};
 
-use model::{Order, wide};
-use site::Site;
-
-// How many flows are asked: as many as the records count.
-fn counted(flows: u8) -> usize
-    ensures { (result ≡ flows) × (result < 256) }
-{
-    wide(flows)
-}
+use model::Order;
+use records::Accepted;
 
 // Whether an order is permitted: it is 14 at most, and its interval not longer than any flow's period.
-pub fn permits(site: Site, order: u8) -> bool
-    requires { checked site ≡ Accepted }
-    ensures { result ≡ permitted order (periods (site_of site)) }
+#[tactic(auto, using(model::specs::OrderLaws::no_order_refused))]
+pub fn permits(site: Accepted, order: u8) -> bool
+    ensures { result ≡ permitted order (periods (site_of site.entry.site.now)) }
 {
     if Order::LARGEST < order {
         return false;
     }
     let interval = Order::new(order).interval();
-    let flows = site.flows;
-    let mut i: usize = 0;
-    while i < counted(site.flow_count) {
-        let flow = flows[i];
-        if flow.period < interval {
-            return false;
-        }
-        i += 1;
-    }
-    true
+    site.flows().iter().all(|flow| interval <= flow.period)
 }
 
 // Fills `counts` with the steps from the root to each cluster on which the parent starts first. A
@@ -54,38 +36,34 @@ fn count_steps(parents: &[u8], starts: &[u32; 64], counts: &mut [u8])
     ensures { counts.new ≡ values (parent_firsts (at parents.now) (at starts.now)) 0 (length parents.now) }
 {
     counts[0] = 0;
-    let mut c: usize = 1;
-    while c < parents.len() {
-        let parent = wide(parents[c]);
-        let mut count = counts[parent];
-        if starts[parent] < starts[c] {
-            count += 1;
-        }
-        counts[c] = count;
-        c += 1;
+    for c in 1..parents.len() {
+        let parent = usize::from(parents[c]);
+        counts[c] = counts[parent] + u8::from(starts[parent] < starts[c]);
     }
 }
 
 // Whether the constraint of each flow holds, with the counts as N: N(source) - N(sink) is at most the
 // crossings that its deadline allows less the steps that its path goes down.
-fn constraints_hold(site: Site, order: u8, depths: &[u8], lineages: &[u64], counts: &[u8]) -> bool
-    requires site_value { (checked site ≡ Accepted) × (order ≤ largest) × (length counts.now ≡ size (site_of site)) }
-    requires depths_value { (depths.now ≡ depths_of (site_of site)) × (length lineages.now ≡ size (site_of site)) × Lineages (parent (site_of site)) lineages.now }
-    ensures { result ≡ all_okay (flow_constraints (site_of site) order) counts.now }
+fn constraints_hold(
+    site: Accepted,
+    order: u8,
+    depths: &[u8],
+    lineages: &[u64],
+    counts: &[u8],
+) -> bool
+    requires site_value { (order ≤ largest) × (length counts.now ≡ size (site_of site.site.now)) }
+    requires depths_value { (depths.now ≡ depths_of (site_of site.site.now)) × (length lineages.now ≡ size (site_of site.site.now)) × Lineages (parent (site_of site.site.now)) lineages.now }
+    ensures { result ≡ all_okay (flow_constraints (site_of site.entry.site.now) order) counts.now }
 {
-    let flows = site.flows;
-    let mut j: usize = 0;
-    while j < counted(site.flow_count) {
-        let flow = flows[j];
-        let source = flow.source as usize;
-        let sink = flow.sink as usize;
+    for flow in site.flows() {
+        let source = usize::from(flow.source);
+        let sink = usize::from(flow.sink);
         let top = tree::top(lineages, source, sink);
-        let down = wide(depths[sink] - depths[top]);
+        let down = usize::from(depths[sink] - depths[top]);
         let allowed = constraints::allowed(flow.deadline, order) as usize;
-        if wide(counts[sink]) + allowed < wide(counts[source]) + down {
+        if usize::from(counts[sink]) + allowed < usize::from(counts[source]) + down {
             return false;
         }
-        j += 1;
     }
     true
 }
@@ -93,18 +71,15 @@ fn constraints_hold(site: Site, order: u8, depths: &[u8], lineages: &[u64], coun
 // Whether no flow is late, where no cluster starts together with its parent. The crossings of a path
 // are counted without walking it: upwards it crosses where the parent starts first, downwards where it
 // does not, so what counts are such steps above both ends, and how far the path goes down.
-pub fn all_on_time(site: Site, order: u8, starts: &[u32; 64]) -> bool
-    requires { (checked site ≡ Accepted) × (order ≤ largest) × ((c : ℕ) → 0 < c → c < size (site_of site) → at starts.now c ≢ at starts.now (parent (site_of site) c)) }
-    ensures { result ≡ not (some_late (site_of site) order (at starts.now)) }
+pub fn all_on_time(site: Accepted, order: u8, starts: &[u32; 64]) -> bool
+    requires { (order ≤ largest) × ((c : ℕ) → 0 < c → c < size (site_of site.site.now) → at starts.now c ≢ at starts.now (parent (site_of site.site.now) c)) }
+    ensures { result ≡ not (some_late (site_of site.entry.site.now) order (at starts.now)) }
 {
-    let n = wide(site.cluster_count);
-    let clusters = site.clusters;
+    let clusters = site.clusters();
+    let n = clusters.len();
     let mut parents = [0; 64];
-    let mut k: usize = 0;
-    while k < n {
-        let cluster = clusters[k];
+    for (k, cluster) in clusters.iter().enumerate() {
         parents[k] = cluster.parent;
-        k += 1;
     }
     let mut depths = [0; 64];
     let mut lineages = [0; 64];

@@ -1,6 +1,6 @@
 -- Why the clients keep what they promise: the reader's answer is what `Surveyed` says, and line k of a text is the row that the reader sees.
 use Rattle.std.proofs.Math.Path.{◌≡◌, ap}
-use Rattle.std.specs.Prelude.{refl, ◌⊎◌, ℕ, zero, suc, ◌+◌, ◌-◌, ◌≤◌, ◌<◌, eqb, length, get_or, drop}
+use Rattle.std.specs.Prelude.{refl, ◌⊎◌, ℕ, zero, suc, ◌+◌, ◌-◌, ◌*◌, ◌≤◌, ◌<◌, eqb, length, get_or, drop, Ok, Err}
 use Rattle.std.proofs.Common.{sym, ◌∙◌, arith, length-drop}
 use mathlib.Core.List.{List, [], ◌∷◌}
 use Rattle.std.proofs.Math.Logic.{inl, inr}
@@ -13,17 +13,22 @@ use Rattle.hexline.specs.Loops.{decide}
 use Rattle.shown.specs.Shown.{line_start, line_at, Shown}
 use Rattle.shown.specs.ShownLaws.{start_fits, line_is_row, line_there, line_missing}
 use Rattle.site.specs.declared.Site.{Site}
-use Rattle.site.specs.declared.Verdict.{Verdict}
-use Rattle.site.specs.declared.Verdict.TheVariants.{Accepted, Refused}
+use Rattle.site.specs.Refusals.{Verdict, accepted}
+use Rattle.site.specs.Told.{Told, refusal}
 use Rattle.site.specs.Records.{no_site}
 use Rattle.site.specs.Table.{due}
 use Rattle.reader.specs.declared.Reading.{Reading}
-use Rattle.reader.specs.Reading.{verdict_at, entered, accepted, onward, read_rows, read_text}
+use Rattle.reader.specs.Reading.{verdict_at, entered, accepted as read_as, onward, read_rows, read_text}
 use Rattle.reader.specs.Places.{no_row, text_place_is_first_bad, text_place_only_then}
 use Rattle.roundtrip.specs.AcceptedExactly.{accepted_exactly}
 use Rattle.roundtrip.specs.WriteOfRead.{write_of_read}
-use Rattle.planner.specs.PlanSize.{plan_size}
-use Rattle.exactness.specs.CallerExact.{ExactNumber, same_site}
+use Rattle.planner.specs.Answers.{Planned, planned_says}
+use Rattle.planner.specs.PlanSize.{plan_size, plan_size_at_most}
+use Rattle.writer.specs.Text.{written_says}
+use Rattle.commission.specs.Numbers.{number_of}
+use Rattle.commission.specs.NumberLaws.{SmallWriting, SmallPlan}
+use Rattle.exactness.specs.CallerExact.{Reads, ExactNumber, same_site, refusal_in_range, taken, answer_refusal, returned_by_answer, returned_by_reader, number_exact}
+use Rattle.exactness.specs.PlannerExact.{ExactAnswer}
 use Rattle.exactness.specs.CheckExact.{ExactCheck, plan_in_is_plan}
 use Rattle.demands.specs.Demands.{Surveyed, PlannedAndPassed, LineShown}
 
@@ -32,16 +37,16 @@ use Rattle.demands.specs.Demands.{Surveyed, PlannedAndPassed, LineShown}
 module _ (number line place : ℕ) where
   -- after this refusal the records are all zero
   abbrev ZeroAfter : Reading → Type 0
-  ZeroAfter r = r.verdict ≡ Refused number line place → r.site ≡ no_site
+  ZeroAfter r = r.verdict ≡ Err (refusal number line place) → r.site ≡ no_site
 
   zero_onward : (v : Verdict) (next : Reading) → ZeroAfter next → ZeroAfter (onward v next)
-  zero_onward Accepted next h e = h e
-  zero_onward (Refused _ _ _) next h e = refl
+  zero_onward (Ok _) next h e = h e
+  zero_onward (Err (refusal _ _ _)) next h e = refl
 
   rows_zero : (rs : List Row) (k : ℕ) (s : Site) → ZeroAfter (read_rows k s rs)
   unfolding read_rows
   rows_zero [] k s e = elim (decide (eqb (due k s.cluster_count s.flow_count) 0)) [
-    | inl q ↦ absurd (let v : Accepted ≡ Refused number line place = rw q at e in let z : ◌≡◌ {A = ℕ} 0 1 = cc in omega arith)
+    | inl q ↦ absurd (let v : accepted ≡ Err (refusal number line place) = rw q at e in let z : ◌≡◌ {A = ℕ} 0 1 = cc in omega arith)
     | inr q ↦ rw q
   ]
   rows_zero (r ∷ rs) k s e =
@@ -62,8 +67,24 @@ surveyed text = record {
   place_only_then = text_place_only_then text;
 }
   where
-    whole : (read_text text).verdict ≡ Accepted → read_text text ≡ accepted (read_text text).site
+    whole : (read_text text).verdict ≡ accepted → read_text text ≡ read_as (read_text text).site
     whole e = λ i. record { site = (read_text text).site; verdict = e i }
+
+-- ---- a text surveyed, and its records planned
+
+module _ (text before : List ℕ) where
+  -- a reader's refusal is small, and the number for the text
+  pub refused_number : (told : Told) → (read_text text).verdict ≡ Err told → SmallWriting (Err told) × ExactNumber text before (number_of (written_says (Err told))) before
+  refused_number (refusal m k p) e = ((refusal_in_range text m k p e).1, number_exact text before (65536 * m + k) before (returned_by_reader text before m k p e))
+
+  -- and so is the planner's answer to the records
+  pub planned_number : (s : Site) → Reads text s → (r : Planned) (after : List ℕ) → ExactAnswer s before r after
+      → SmallPlan r × ExactNumber text before (number_of (planned_says r)) after
+  planned_number s read r after exact = (small r exact, number_exact text before (number_of (planned_says r)) after (returned_by_answer text before s read r after exact))
+    where
+      small : (r : Planned) → ExactAnswer s before r after → SmallPlan r
+      small (Ok plan) exact = omega (arith, (exact.plan_is_placing plan.length plan.order refl).size, plan_size_at_most s (taken text before s read))
+      small (Err (refusal m k p)) exact = let none = (answer_refusal text before s read (Err (refusal m k p)) after exact m k p refl).2 in omega (arith, none)
 
 -- ---- the part shown
 

@@ -5,112 +5,10 @@ ghost use Rattle.std.specs.Prelude.{◌≤◌, length};
 ghost use Rattle.hexroom.specs.Fields.{bytes_of_fields};
 
 use hexroom::Field;
-use planner::Planned;
+use planner::Plan;
 use reader::Reading;
-use site::{Entry, Verdict};
+use site::{Entry, Refusal};
 use std::io;
-use writer::Written;
-
-// A refusal: its number, its line and its place.
-#[derive(Drop)]
-pub struct Refusal {
-    number: u8,
-    pub line: usize,
-    place: u16,
-}
-
-// How many clusters and flows were read.
-#[derive(Drop)]
-pub struct Counts {
-    clusters: u8,
-    flows: u8,
-}
-
-// A site's text of so many bytes.
-#[derive(Drop)]
-pub struct Text {
-    length: usize,
-}
-
-// A plan text of so many bytes, and its order.
-#[derive(Drop)]
-pub struct Plan {
-    length: usize,
-    order: u8,
-}
-
-// What is said of records or of a plan.
-pub fn verdict(verdict: Verdict) -> Result<(), Refusal> {
-    match verdict {
-        Verdict::Accepted => Ok(()),
-        Verdict::Refused {
-            number,
-            line,
-            place,
-        } => Err(Refusal {
-            number,
-            line,
-            place,
-        }),
-    }
-}
-
-// What a line is, if it is taken.
-pub fn entry(entry: Entry) -> Result<(), Refusal> {
-    match entry {
-        Entry::Refused {
-            number,
-            line,
-            place,
-        } => Err(Refusal {
-            number,
-            line,
-            place,
-        }),
-        _ => Ok(()),
-    }
-}
-
-// The reader's answer.
-pub fn reading(reading: &Reading) -> Result<Counts, Refusal> {
-    verdict(reading.verdict)?;
-    Ok(Counts {
-        clusters: reading.site.cluster_count,
-        flows: reading.site.flow_count,
-    })
-}
-
-// The writer's answer.
-pub fn written(written: Written) -> Result<Text, Refusal> {
-    match written {
-        Written::Length(length) => Ok(Text { length }),
-        Written::Refused {
-            number,
-            line,
-            place,
-        } => Err(Refusal {
-            number,
-            line,
-            place,
-        }),
-    }
-}
-
-// The planner's answer.
-pub fn planned(planned: Planned) -> Result<Plan, Refusal> {
-    match planned {
-        Planned::Plan { length, order } => Ok(Plan { length, order }),
-        Planned::Refused {
-            number,
-            line,
-            place,
-        } => Err(Refusal {
-            number,
-            line,
-            place,
-        }),
-    }
-}
 
 // What a client answers.
 pub trait Answer {
@@ -157,43 +55,36 @@ impl Answer for Refusal {
             rt,
             &[
                 Field::byte(0x8F),
-                Field::byte(self.number),
-                Field::new(2, self.line as u64),
-                Field::new(1, u64::from(self.place)),
+                Field::byte(self.number()),
+                Field::new(2, self.line() as u64),
+                Field::byte(self.place()),
             ],
         )
     }
 }
 
-// 80.
+// What is said of records or of a plan that is taken: 80.
 impl Answer for () {
     fn print(&self, rt: &impl Print) -> io::Result<()> {
         print_line(rt, &[Field::byte(0x80)])
     }
 }
 
-// 80 and the two counts.
-impl Answer for Counts {
+// A line that is taken: 80.
+impl Answer for Entry {
     fn print(&self, rt: &impl Print) -> io::Result<()> {
-        print_line(
-            rt,
-            &[
-                Field::byte(0x80),
-                Field::byte(self.clusters),
-                Field::byte(self.flows),
-            ],
-        )
+        ().print(rt)
     }
 }
 
-// 80 and the length.
-impl Answer for Text {
+// A site's text of so many bytes: 80 and the length.
+impl Answer for usize {
     fn print(&self, rt: &impl Print) -> io::Result<()> {
-        print_line(rt, &[Field::byte(0x80), Field::new(4, self.length as u64)])
+        print_line(rt, &[Field::byte(0x80), Field::new(4, *self as u64)])
     }
 
     fn text_length(&self) -> usize {
-        self.length
+        *self
     }
 }
 
@@ -228,6 +119,23 @@ impl<T: Answer> Answer for Result<T, Refusal> {
         match self {
             Ok(taken) => taken.text_length(),
             Err(refusal) => refusal.text_length(),
+        }
+    }
+}
+
+// 80 and how many clusters and flows were read, or the refusal.
+impl Answer for Reading {
+    fn print(&self, rt: &impl Print) -> io::Result<()> {
+        match &self.verdict {
+            Ok(()) => print_line(
+                rt,
+                &[
+                    Field::byte(0x80),
+                    Field::byte(self.site.cluster_count),
+                    Field::byte(self.site.flow_count),
+                ],
+            ),
+            Err(refusal) => refusal.print(rt),
         }
     }
 }

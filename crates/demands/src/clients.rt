@@ -1,7 +1,10 @@
 // Clients of the public functions: each calls them as a tool would, and promises what the tool's
 // owner was promised.
-ghost use Rattle.std.specs.Prelude.{◌≡◌, true, ◌+◌, ◌*◌, ◌≤◌};
-ghost use Rattle.reader.specs.Reading.{refused as refused_as};
+ghost use Rattle.std.specs.Prelude.{◌≡◌, true};
+ghost use Rattle.reader.specs.Reading.{refused_by};
+ghost use Rattle.writer.specs.Text.{written_says};
+ghost use Rattle.commission.specs.Numbers.{number_of};
+ghost use Rattle.commission.specs.NumberLaws.{SmallWriting};
 ghost use Rattle.roundtrip.specs.WriterExact.{ExactWriting};
 ghost use Rattle.exactness.specs.CallerExact.{ExactNumber};
 ghost use Rattle.exactness.specs.CheckExact.{ExactCheck, ExactChecking};
@@ -10,10 +13,9 @@ ghost use Rattle.exactness.specs.RewriteExact.{ExactRewrite};
 ghost use Rattle.exactness.specs.PlaceExact.{ExactPlace};
 ghost use Rattle.demands.specs.Demands.{Surveyed, BackAgain, PlannedAndPassed, LineShown, LineAnswered};
 
-use planner::Planned;
-use reader::Reading;
-use site::{Cluster, Entry, Flow, Site, Tag, Verdict};
-use writer::Written;
+use planner::Plan;
+use reader::{NO_SITE, Reading};
+use site::{Counts, Entry, Refusal, Site};
 
 // The commissioning tool's way: a site's text and a room in, one number out.
 pub fn commission(text: &[u8], room: &mut [u8]) -> u32
@@ -30,25 +32,28 @@ pub fn read_text(text: &[u8]) -> Reading
 }
 
 // The planner on records, which may be anything.
-pub fn plan_records(site: Site, room: &mut [u8]) -> Planned
-    ensures { ExactAnswer site room.old result room.new }
+pub fn plan_records(site: &Site, room: &mut [u8]) -> Result<Plan, Refusal>
+    ensures { ExactAnswer site.now room.old result room.new }
 {
     planner::plan(site, room)
 }
 
 // The writer on records, which may be anything.
-pub fn write_records(site: Site, room: &mut [u8]) -> Written
-    ensures { ExactWriting site room.old result room.new }
+pub fn write_records(site: &Site, room: &mut [u8]) -> Result<usize, Refusal>
+    ensures { ExactWriting site.now room.old result room.new }
 {
     writer::write(site, room)
 }
 
-// A refusal as the commissioning tool has it: without its place.
-fn one_number(number: u8, line: usize) -> u32
-    requires { line ≤ 194 }
-    ensures { result ≡ 65536 * number + line }
+// The records of a text, handed to the planner: the length of the plan, or the refusal of either.
+fn plan_surveyed(text: &[u8], room: &mut [u8]) -> Result<usize, Refusal>
+    ensures small { SmallWriting result }
+    ensures number { ExactNumber text.now room.old (number_of (written_says result)) room.new }
 {
-    65536 * (number as u32) + line as u32
+    let Reading { site, verdict } = read_text(text);
+    verdict?;
+    let plan = plan_records(&site, room)?;
+    Ok(plan.length)
 }
 
 // The survey tool's way with the same text: read it, and hand the records to the planner. The number
@@ -56,25 +61,9 @@ fn one_number(number: u8, line: usize) -> u32
 pub fn survey(text: &[u8], room: &mut [u8]) -> u32
     ensures { ExactNumber text.now room.old result room.new }
 {
-    let reading = read_text(text);
-    let verdict = reading.verdict;
-    match verdict {
-        Verdict::Refused {
-            number,
-            line,
-            place: _,
-        } => one_number(number, line),
-        Verdict::Accepted => {
-            let planned = plan_records(reading.site, room);
-            match planned {
-                Planned::Plan { length, order: _ } => length as u32,
-                Planned::Refused {
-                    number,
-                    line,
-                    place: _,
-                } => one_number(number, line),
-            }
-        }
+    match plan_surveyed(text, room) {
+        Ok(length) => length as u32,
+        Err(refusal) => refusal.packed(),
     }
 }
 
@@ -100,8 +89,8 @@ pub fn check(text: &[u8], plan: &[u8]) -> u32
 }
 
 // The checker on records, which may be anything.
-pub fn check_records(site: Site, plan: &[u8]) -> Verdict
-    ensures { ExactChecking site plan.now result }
+pub fn check_records(site: &Site, plan: &[u8]) -> Result<(), Refusal>
+    ensures { ExactChecking site.now plan.now result }
 {
     checker::check_plan(site, plan)
 }
@@ -119,53 +108,23 @@ pub fn plan_and_check(text: &[u8], room: &mut [u8]) -> u32
 }
 
 // A reading of records that are all zero, with this refusal.
-fn refused(number: u8, line: usize, place: u16) -> Reading
-    ensures { result ≡ refused_as number line place }
+fn refused(refusal: Refusal) -> Reading
+    ensures { result ≡ refused_by refusal }
 {
-    let tag = Tag {
-        bytes: [0; 64],
-        len: 0,
-    };
-    let cluster = Cluster {
-        parent: 0,
-        order: 0,
-        tag,
-    };
-    let flow = Flow {
-        source: 0,
-        sink: 0,
-        period: 0,
-        deadline: 0,
-    };
-    let site = Site {
-        clusters: [cluster; 64],
-        flows: [flow; 128],
-        cluster_count: 0,
-        flow_count: 0,
-    };
     Reading {
-        site,
-        verdict: Verdict::Refused {
-            number,
-            line,
-            place,
-        },
+        site: NO_SITE,
+        verdict: Err(refusal),
     }
 }
 
 // Records there and back: written into the room, and what was written read again. After a refusal by
 // the writer: its refusal, and records all zero.
-pub fn there_and_back(site: Site, room: &mut [u8]) -> Reading
-    ensures { BackAgain site room.old result room.new }
+pub fn there_and_back(site: &Site, room: &mut [u8]) -> Reading
+    ensures { BackAgain site.now room.old result room.new }
 {
-    let written = write_records(site, room);
-    match written {
-        Written::Length(n) => read_text(&room[..n]),
-        Written::Refused {
-            number,
-            line,
-            place,
-        } => refused(number, line, place),
+    match write_records(site, room) {
+        Ok(length) => read_text(&room[..length]),
+        Err(refusal) => refused(refusal),
     }
 }
 
@@ -187,8 +146,8 @@ pub fn shown_line(text: &[u8], line: usize) -> &[u8]
 
 // What a line is by itself, as the survey tool says it while the line is typed: ended, after a header
 // of so many clusters and flows.
-pub fn read_one_line(line: &[u8], k: usize, clusters: u8, flows: u8) -> Entry
-    ensures { LineAnswered k clusters flows (record { chars = line.now; ended = true }) result }
+pub fn read_one_line(line: &[u8], k: usize, counts: Counts) -> Result<Entry, Refusal>
+    ensures { LineAnswered k counts.clusters counts.flows (record { chars = line.now; ended = true }) result }
 {
-    site::read_line(line, true, k, clusters, flows)
+    site::read_line(line, true, k, counts)
 }

@@ -14,6 +14,7 @@ use answers::{Answer, print_part};
 use input::{Head, read_array, read_part};
 use patches::read_patches;
 use reader::Reading;
+use site::Counts;
 use std::io;
 use std::io::Read;
 
@@ -25,15 +26,19 @@ const MOST_BYTES: usize = 12288;
 // Prints what was read, the parts shown for the line asked for and for the refusal's, and what the
 // line asked for is by itself.
 fn run_lines(rt: &impl Print, text: &[u8], reading: &Reading, asked: usize) -> io::Result<()> {
-    let answer = answers::reading(reading);
-    answer.print(rt)?;
-    let refused = answer.err().map_or(0, |refusal| refusal.line);
+    reading.print(rt)?;
+    let refused = match &reading.verdict {
+        Ok(()) => 0,
+        Err(refusal) => refusal.line(),
+    };
     let part = clients::shown_line(text, asked);
     print_part(rt, part)?;
     print_part(rt, clients::shown_part(text, refused))?;
-    let site = &reading.site;
-    let entry = clients::read_one_line(part, asked, site.cluster_count, site.flow_count);
-    answers::entry(entry).print(rt)
+    let counts = Counts {
+        clusters: reading.site.cluster_count,
+        flows: reading.site.flow_count,
+    };
+    clients::read_one_line(part, asked, counts).print(rt)
 }
 
 // Lends a client a room, so many bytes at the start of a space of '.', and prints what it answers and
@@ -73,15 +78,15 @@ fn run_clients(
     let mut records = reading.site;
     read_patches(input, &mut records, head.patches)?;
     run_in_room(rt, head.plan_room, |room| {
-        answers::planned(clients::plan_records(records, room))
+        clients::plan_records(&records, room)
     })?;
     run_in_room(rt, head.site_room, |room| {
-        answers::written(clients::write_records(records, room))
+        clients::write_records(&records, room)
     })?;
     run_in_room(rt, head.site_room, |room| {
-        answers::reading(&clients::there_and_back(records, room))
+        clients::there_and_back(&records, room)
     })?;
-    answers::verdict(clients::check_records(records, plan)).print(rt)
+    clients::check_records(&records, plan).print(rt)
 }
 
 // Runs all cases, up to the end of the input or a head that asks for more than there is space.

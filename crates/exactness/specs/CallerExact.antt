@@ -3,22 +3,20 @@
 -- 65,536 x 9 exactly if some permitted order has a placing and the room is shorter, 65,536 x 8 exactly if the text reads and no placing exists though the portions fit,
 -- 65,536 x 7 exactly if it reads and they fit no permitted order, and 65,536 x m + k for one of the site's own numbers m exactly if the reader refuses by m at line k.
 -- The place of that refusal is what `cartheron_place` gives (`PlaceExact`).
-use Rattle.std.specs.Prelude.{◌≡◌, refl, true, false, List, ◌↔◌, ◌⊎◌, ℕ, ◌+◌, ◌*◌, ◌≤◌, ◌<◌, eqb, length}
+use Rattle.std.specs.Prelude.{◌≡◌, refl, true, false, List, ◌↔◌, ◌⊎◌, ℕ, ◌+◌, ◌*◌, ◌≤◌, ◌<◌, eqb, length, Ok, Err}
 use Rattle.std.proofs.Common.{sym, ap, ◌∙◌, subst, inl, inr, arith, eqb-true}
 use Rattle.std.proofs.lemmas.Bool.{eqb-false}
 use Rattle.hexline.specs.Loops.{decide}
 use Rattle.model.specs.Exactness.{Placeable, Late, Misfit}
 use Rattle.site.specs.declared.Site.{Site}
-use Rattle.site.specs.declared.Verdict.{Verdict}
-use Rattle.site.specs.declared.Verdict.TheVariants.{Accepted, Refused}
+use Rattle.site.specs.Refusals.{Verdict}
+use Rattle.site.specs.Told.{refusal}
 use Rattle.site.specs.Table.{own_number}
 use Rattle.site.specs.TableLaws.{own_range}
 use Rattle.reader.specs.declared.Reading.{Reading}
-use Rattle.reader.specs.Reading.{accepted, read_text}
+use Rattle.reader.specs.Reading.{accepted as read_as, read_text}
 use Rattle.plantext.specs.PlanText.{site_of}
-use Rattle.planner.specs.declared.Planned.{Planned}
-use Rattle.planner.specs.declared.Planned.TheVariants.{Plan, Refused as RefusedPlan}
-use Rattle.planner.specs.Answers.{planned_says, answer, room_after}
+use Rattle.planner.specs.Answers.{Planned, a_plan, planned_says, answer, room_after}
 use Rattle.planner.specs.PlanSize.{plan_size, plan_size_at_most}
 use Rattle.commission.specs.Numbers.{number_of, plan_number, plan_room}
 use Rattle.commission.specs.SmallRefusals.{Small, text_refusal_small}
@@ -29,11 +27,11 @@ use Rattle.exactness.specs.PlannerExact.{PlanIn, Taken, ExactAnswer, not_in, acc
 
 -- the text is a site, with these records
 abbrev pub Reads : List ℕ → Site → Type 0
-Reads text s = read_text text ≡ accepted s
+Reads text s = read_text text ≡ read_as s
 
 -- the number n for a text, and the room before and after it
 pub record ExactNumber (text before : List ℕ) (n : ℕ) (after : List ℕ) : Type 0 where
-  pub refused_exactly : (number line : ℕ) → own_number number ≡ true → line < 65536 → (n ≡ 65536 * number + line) ↔ ((place : ℕ) × ((read_text text).verdict ≡ Refused number line place))
+  pub refused_exactly : (number line : ℕ) → own_number number ≡ true → line < 65536 → (n ≡ 65536 * number + line) ↔ ((place : ℕ) × ((read_text text).verdict ≡ Err (refusal number line place)))
   pub planned_exactly : (n < 65536) ↔ ((s : Site) × Reads text s × Placeable (site_of s) × (plan_size s ≤ length before))
   pub plan_is_placing : n < 65536 → (s : Site) × (order : ℕ) × Reads text s × PlanIn s before n order after
   pub short_exactly : (n ≡ 65536 * 9) ↔ ((s : Site) × Reads text s × Placeable (site_of s) × (length before < plan_size s))
@@ -46,7 +44,7 @@ pub record ExactNumber (text before : List ℕ) (n : ℕ) (after : List ℕ) : T
 -- ---- the site's own numbers, and what a C caller gets of them
 
 -- the reader's refusals are by the site's own numbers, at a line of at most 194
-pub refusal_in_range : (text : List ℕ) (m k p : ℕ) → (read_text text).verdict ≡ Refused m k p → (own_number m ≡ true) × (k ≤ 194)
+pub refusal_in_range : (text : List ℕ) (m k p : ℕ) → (read_text text).verdict ≡ Err (refusal m k p) → (own_number m ≡ true) × (k ≤ 194)
 refusal_in_range text m k p e = subst Small e (text_refusal_small text)
 
 -- such a refusal is no length
@@ -60,7 +58,7 @@ own_not m x k own other near e = not_in own_number m x own other (omega arith)
 -- ---- one of five comes back
 
 pub data Returned (text before : List ℕ) (n : ℕ) (after : List ℕ) : Type 0 where
-  refuses : (m k p : ℕ) → (read_text text).verdict ≡ Refused m k p → (own_number m ≡ true) × (k ≤ 194) → n ≡ 65536 * m + k → after ≡ before → Returned text before n after
+  refuses : (m k p : ℕ) → (read_text text).verdict ≡ Err (refusal m k p) → (own_number m ≡ true) × (k ≤ 194) → n ≡ 65536 * m + k → after ≡ before → Returned text before n after
   plans : (s : Site) (order : ℕ) → Reads text s → Placeable (site_of s) → plan_size s ≤ length before → PlanIn s before n order after → n ≤ 9673 → Returned text before n after
   short : (s : Site) → Reads text s → Placeable (site_of s) → length before < plan_size s → n ≡ 65536 * 9 → after ≡ before → Returned text before n after
   late : (s : Site) → Reads text s → Late (site_of s) → n ≡ 65536 * 8 → after ≡ before → Returned text before n after
@@ -73,13 +71,13 @@ module _ (text before : List ℕ) (s : Site) (read : Reads text s) where
 
   module _ (r : Planned) (after : List ℕ) (exact : ExactAnswer s before r after) where
     -- a refusal of its records is 7, 8 or 9 with line 0 and no place
-    pub answer_refusal : (m k p : ℕ) → r ≡ RefusedPlan m k p → (7 ≤ m) × (m ≤ 9) × (k ≡ 0) × (p ≡ 255)
+    pub answer_refusal : (m k p : ℕ) → r ≡ Err (refusal m k p) → (7 ≤ m) × (m ≤ 9) × (k ≡ 0) × (p ≡ 255)
     answer_refusal m k p is = elim (exact.refusal_known m k p is) [
       | inl h ↦ accepted_or_refused s m k p taken ((exact.refused_exactly m k p h).0 is)
       | inr h ↦ h
     ]
 
-    refusal_returned : (m k p : ℕ) → r ≡ RefusedPlan m k p → Returned text before (65536 * m + k) after
+    refusal_returned : (m k p : ℕ) → r ≡ Err (refusal m k p) → Returned text before (65536 * m + k) after
     refusal_returned m k p is =
         let h = answer_refusal m k p is in
         let same = exact.refusal_writes_nothing m k p is in
@@ -94,17 +92,17 @@ module _ (text before : List ℕ) (s : Site) (read : Reads text s) where
           ]
         ]
 
-    plan_returned : (len order : ℕ) → r ≡ Plan len order → Returned text before len after
+    plan_returned : (len order : ℕ) → r ≡ a_plan len order → Returned text before len after
     plan_returned len order is =
         let w = exact.planned_exactly.0 (len, order, is) in
         let plan = exact.plan_is_placing len order is in
         plans s order read w.1 w.2 plan (omega (arith, plan.size, plan_size_at_most s taken))
 
   pub returned_by_answer : (r : Planned) (after : List ℕ) → ExactAnswer s before r after → Returned text before (number_of (planned_says r)) after
-  returned_by_answer (Plan len order) after exact = plan_returned (Plan len order) after exact len order refl
-  returned_by_answer (RefusedPlan m k p) after exact = refusal_returned (RefusedPlan m k p) after exact m k p refl
+  returned_by_answer (Ok plan) after exact = plan_returned (Ok plan) after exact plan.length plan.order refl
+  returned_by_answer (Err (refusal m k p)) after exact = refusal_returned (Err (refusal m k p)) after exact m k p refl
 
-pub returned_by_reader : (text room : List ℕ) (m k p : ℕ) → (read_text text).verdict ≡ Refused m k p → Returned text room (65536 * m + k) room
+pub returned_by_reader : (text room : List ℕ) (m k p : ℕ) → (read_text text).verdict ≡ Err (refusal m k p) → Returned text room (65536 * m + k) room
 returned_by_reader text room m k p e = refuses m k p e (refusal_in_range text m k p e) refl refl
 
 caller_returned : (text room : List ℕ) → Returned text room (plan_number text (length room)) (plan_room text room)
@@ -112,8 +110,8 @@ unfolding plan_number plan_room
 caller_returned text room = by_verdict (read_text text).verdict refl
   where
     by_verdict : (v : Verdict) → (read_text text).verdict ≡ v → Returned text room (plan_number text (length room)) (plan_room text room)
-    by_verdict (Refused m k p) e = rw e (returned_by_reader text room m k p e)
-    by_verdict Accepted e = let s : Site = (read_text text).site in
+    by_verdict (Err (refusal m k p)) e = rw e (returned_by_reader text room m k p e)
+    by_verdict (Ok _) e = let s : Site = (read_text text).site in
         rw e (returned_by_answer text room s (λ i. record { site = s; verdict = e i }) (answer s (length room)) (room_after s room) (planner_is_exact s room))
 
 -- ---- and each exactly where it should
@@ -122,7 +120,7 @@ module _ (text : List ℕ) where
   pub same_site : (s t : Site) → Reads text s → Reads text t → s ≡ t
   same_site s t p q = ap (λ (r : Reading). r.site) (sym p ∙ q)
 
-  pub reads_or_refused : {A : Type 0} (s : Site) (m k p : ℕ) → Reads text s → (read_text text).verdict ≡ Refused m k p → A
+  pub reads_or_refused : {A : Type 0} (s : Site) (m k p : ℕ) → Reads text s → (read_text text).verdict ≡ Err (refusal m k p) → A
   reads_or_refused s m k p read e = absurd (let q = ap (λ (r : Reading). r.verdict) read in let z : ◌≡◌ {A = ℕ} 0 1 = cc in omega arith)
 
 module _ (text before : List ℕ) (n : ℕ) (after : List ℕ) (returned : Returned text before n after) where

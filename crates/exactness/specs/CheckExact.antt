@@ -4,7 +4,7 @@
 -- (`better_plan_refuted`).
 use Rattle.std.proofs.Math.Path.{◌≡◌, refl, sym}
 use Rattle.std.proofs.Common.{ap, ◌∙◌, subst, inr, arith, leb-true, leb-false}
-use Rattle.std.specs.Prelude.{true, List, ◌↔◌, ◌⊎◌, ℕ, ◌+◌, ◌*◌, ◌≤◌, ◌<◌, leb, length, take}
+use Rattle.std.specs.Prelude.{true, List, ◌↔◌, ◌⊎◌, ℕ, ◌+◌, ◌*◌, ◌≤◌, ◌<◌, leb, length, take, Ok, Err}
 use Rattle.std.proofs.Math.Logic.{inl}
 use Rattle.std.proofs.Math.Seq.{take-append_seam}
 use Rattle.hexline.specs.Lines.{rows}
@@ -12,8 +12,8 @@ use Rattle.hexline.specs.Loops.{decide}
 use Rattle.model.specs.Exactness.{Placeable}
 use Rattle.model.specs.PublishedPlan.{plan_is_published}
 use Rattle.site.specs.declared.Site.{Site}
-use Rattle.site.specs.declared.Verdict.{Verdict}
-use Rattle.site.specs.declared.Verdict.TheVariants.{Accepted, Refused}
+use Rattle.site.specs.Refusals.{Verdict, accepted}
+use Rattle.site.specs.Told.{refusal}
 use Rattle.site.specs.Answers.{verdict_says}
 use Rattle.site.specs.Table.{record_number, own_number}
 use Rattle.site.specs.TableLaws.{record_range, own_range}
@@ -39,16 +39,16 @@ use Rattle.exactness.specs.CallerExact.{Reads, refusal_in_range, own_large, same
 
 -- the answer r to the records s and a plan text
 pub record ExactChecking (s : Site) (plan : List ℕ) (r : Verdict) : Type 0 where
-  pub refused_exactly : (number line place : ℕ) → record_number number ≡ true → (r ≡ Refused number line place) ↔ (checked s ≡ Refused number line place)
-  pub accepts_exactly : (r ≡ Accepted) ↔ (Taken s × PlanFor s plan)
+  pub refused_exactly : (number line place : ℕ) → record_number number ≡ true → (r ≡ Err (refusal number line place)) ↔ (checked s ≡ Err (refusal number line place))
+  pub accepts_exactly : (r ≡ accepted) ↔ (Taken s × PlanFor s plan)
   -- for accepted records the list of tests decides
   pub by_tests : Taken s → r ≡ plan_verdict s (rows plan)
   -- no other refusal is given
-  pub refusal_known : (number line place : ℕ) → r ≡ Refused number line place → (record_number number ≡ true) ⊎ ((20 ≤ number) × (number ≤ 24) × (line ≡ 0) × (place ≡ 255))
+  pub refusal_known : (number line place : ℕ) → r ≡ Err (refusal number line place) → (record_number number ≡ true) ⊎ ((20 ≤ number) × (number ≤ 24) × (line ≡ 0) × (place ≡ 255))
 
 -- the number n for a site's text and a plan text
 pub record ExactCheck (text plan : List ℕ) (n : ℕ) : Type 0 where
-  pub refused_exactly : (number line : ℕ) → own_number number ≡ true → line < 65536 → (n ≡ 65536 * number + line) ↔ ((place : ℕ) × ((read_text text).verdict ≡ Refused number line place))
+  pub refused_exactly : (number line : ℕ) → own_number number ≡ true → line < 65536 → (n ≡ 65536 * number + line) ↔ ((place : ℕ) × ((read_text text).verdict ≡ Err (refusal number line place)))
   pub accepts_exactly : (n ≡ 0) ↔ ((s : Site) × Reads text s × PlanFor s plan)
   -- for a text that reads the list of tests decides
   pub by_tests : (s : Site) → Reads text s → n ≡ number_of (verdict_says (plan_verdict s (rows plan)))
@@ -65,13 +65,13 @@ pub record BetterRefuted (text : List ℕ) (n : ℕ) (after : List ℕ) : Type 0
 
 module _ (s : Site) (plan : List ℕ) where
   -- the list of tests accepts exactly the plans
-  pub tests_accept_exactly : Taken s → (plan_verdict s (rows plan) ≡ Accepted) ↔ PlanFor s plan
+  pub tests_accept_exactly : Taken s → (plan_verdict s (rows plan) ≡ accepted) ↔ PlanFor s plan
   tests_accept_exactly taken = (λ e. (order_in plan, accepted_plan_is_placed s taken plan e), λ w. placed_plan_is_accepted s taken plan w.0 w.1)
 
   checking_by_tests : Taken s → (v : Verdict) → plan_verdict s (rows plan) ≡ v → ExactChecking s plan v
   checking_by_tests taken v e = let told : OfPlans v = subst OfPlans e (verdict_of_plans s (rows plan)) in record {
     refused_exactly = λ number line place known. (
-      λ is. let of-plans : OfPlans (Refused number line place) = subst OfPlans is told in absurd (in_neither number known of-plans.0),
+      λ is. let of-plans : OfPlans (Err (refusal number line place)) = subst OfPlans is told in absurd (in_neither number known of-plans.0),
       λ c. accepted_or_refused s number line place taken c,
     );
     accepts_exactly = (λ is. (taken, (tests_accept_exactly taken).0 (e ∙ is)), λ w. sym e ∙ (tests_accept_exactly taken).1 w.1);
@@ -87,8 +87,8 @@ module _ (s : Site) (plan : List ℕ) where
   checker_is_exact = by_verdict (checked s) refl
     where
       by_verdict : (v : Verdict) → checked s ≡ v → ExactChecking s plan (checked_plan s plan)
-      by_verdict Accepted e = rw e (checking_by_tests e (plan_verdict s (rows plan)) refl)
-      by_verdict (Refused m k p) e = rw e (record {
+      by_verdict (Ok _) e = rw e (checking_by_tests e (plan_verdict s (rows plan)) refl)
+      by_verdict (Err (refusal m k p)) e = rw e (record {
         refused_exactly = λ number line place known. (λ is. e ∙ is, λ c. sym e ∙ c);
         accepts_exactly = (λ is. absurd (let z : ◌≡◌ {A = ℕ} 0 1 = cc in omega arith), λ w. accepted_or_refused s m k p w.0 e);
         by_tests = λ taken. accepted_or_refused s m k p taken e;
@@ -98,7 +98,7 @@ module _ (s : Site) (plan : List ℕ) where
 -- ---- a C caller
 
 module _ (text plan : List ℕ) where
-  refused_number : (m k p : ℕ) → (read_text text).verdict ≡ Refused m k p → check_number text plan ≡ 65536 * m + k
+  refused_number : (m k p : ℕ) → (read_text text).verdict ≡ Err (refusal m k p) → check_number text plan ≡ 65536 * m + k
   unfolding check_number
   refused_number m k p e = rw e
 
@@ -107,9 +107,9 @@ module _ (text plan : List ℕ) where
   read_number s read = rw (read, (write_of_read text s read).0)
 
   -- a verdict of plans as a number: 0, or 20 to 24 with line 0
-  number_of_plans : (v : Verdict) → OfPlans v → ((v ≡ Accepted) × (number_of (verdict_says v) ≡ 0)) ⊎ ((m : ℕ) × (20 ≤ m) × (m ≤ 24) × (number_of (verdict_says v) ≡ 65536 * m))
-  number_of_plans Accepted h = inl (refl, refl)
-  number_of_plans (Refused m k p) h = inr (m, h.0, h.1, omega (arith, h.2))
+  number_of_plans : (v : Verdict) → OfPlans v → ((v ≡ accepted) × (number_of (verdict_says v) ≡ 0)) ⊎ ((m : ℕ) × (20 ≤ m) × (m ≤ 24) × (number_of (verdict_says v) ≡ 65536 * m))
+  number_of_plans (Ok _) h = inl (refl, refl)
+  number_of_plans (Err (refusal m k p)) h = inr (m, h.0, h.1, omega (arith, h.2))
 
   module _ (s : Site) (read : Reads text s) where
     abbrev v : Verdict
@@ -118,7 +118,7 @@ module _ (text plan : List ℕ) where
     abbrev n : ℕ
     n = check_number text plan
 
-    told : ((v ≡ Accepted) × (n ≡ 0)) ⊎ ((m : ℕ) × (20 ≤ m) × (m ≤ 24) × (n ≡ 65536 * m))
+    told : ((v ≡ accepted) × (n ≡ 0)) ⊎ ((m : ℕ) × (20 ≤ m) × (m ≤ 24) × (n ≡ 65536 * m))
     told = elim (number_of_plans v (verdict_of_plans s (rows plan))) [
       | inl h ↦ inl (h.0, read_number s read ∙ h.1)
       | inr h ↦ inr (h.0, h.1, h.2, read_number s read ∙ h.3)
@@ -149,7 +149,7 @@ module _ (text plan : List ℕ) where
       ];
     }
 
-  exact_by_reader : (m k p : ℕ) → (read_text text).verdict ≡ Refused m k p → ExactCheck text plan (check_number text plan)
+  exact_by_reader : (m k p : ℕ) → (read_text text).verdict ≡ Err (refusal m k p) → ExactCheck text plan (check_number text plan)
   exact_by_reader m k p e =
       let limits = refusal_in_range text m k p e in
       let is = refused_number m k p e in
@@ -167,8 +167,8 @@ module _ (text plan : List ℕ) where
   check_is_exact = by_verdict (read_text text).verdict refl
     where
       by_verdict : (v : Verdict) → (read_text text).verdict ≡ v → ExactCheck text plan (check_number text plan)
-      by_verdict (Refused m k p) e = exact_by_reader m k p e
-      by_verdict Accepted e = exact_by_tests (read_text text).site (λ i. record { site = (read_text text).site; verdict = e i })
+      by_verdict (Err (refusal m k p)) e = exact_by_reader m k p e
+      by_verdict (Ok _) e = exact_by_tests (read_text text).site (λ i. record { site = (read_text text).site; verdict = e i })
 
   pub accepts_exactly : (check_number text plan ≡ 0) ↔ ((s : Site) × Reads text s × PlanFor s plan)
   accepts_exactly = check_is_exact.accepts_exactly

@@ -1,13 +1,15 @@
 -- Two results that one contract allows are equal (docs/PROMISES.md, "Theorems"), for each public function. A contract says that
 -- the result is d, or that the result is d and the room is e, with d and e made of the arguments alone, so each line here is an instance of one of two laws.
 -- A part of a text that is shown is a place in memory and its bytes; these are equal, and nothing else of it can be looked at. The exceptions,
--- which docs/PROMISES.md explains, are functions that fill arrays of inner functions' own and leave some of them open (relaxing::settle, hexbytes::is_malformed, site::line_entry, figures::figures_of, this one also its period).
-use Rattle.std.specs.Prelude.{◌≡◌, Bool, false, not, ◌&&◌, Result, List, [], ◌∷◌, ◌++◌, ℕ, ◌+◌, ◌-◌, ◌*◌, ◌/◌, ◌<◌, min, length, get_or, take, drop, replicate}
-use Rattle.std.proofs.Common.{sym, ◌∙◌}
+-- which docs/PROMISES.md explains, are functions that fill arrays of inner functions' own and leave some of them open (relaxing::settle, figures::figures_of, this one also its period), and
+-- reader::read_into, which leaves the records open after a refusal.
+-- A line that is decoded is the text that it was made of and its bytes, and of two such lines both are equal.
+use Rattle.std.specs.Prelude.{◌≡◌, refl, true, not, ◌&&◌, Option, Some, None, is_none, IfSome, Result, Ok, Err, OnOk, List, [], ◌∷◌, ◌++◌, ℕ, ◌+◌, ◌-◌, ◌*◌, ◌/◌, ◌<◌, min, length, get_or, take, drop}
+use Rattle.std.proofs.Common.{sym, ◌∙◌, subst, arith}
 use Rattle.std.specs.Borrow.{Bor}
 use Rattle.hexline.specs.Digits.{is_digit as is_digit_of, digit, hex_of, byte_at, number_at, hexes, number_bytes, field_bytes, line_of}
-use Rattle.hexline.specs.Loops.{every, filled}
-use Rattle.hexbytes.specs.Decoded.{Decoded}
+use Rattle.hexline.specs.Loops.{every}
+use Rattle.hexbytes.specs.declared.line.Line.{Line}
 use Rattle.hexline.specs.Lines.{Row, rows, line_length, malformed}
 use Rattle.hexroom.specs.Room.{put}
 use Rattle.model.specs.declared.Order.{Order}
@@ -27,15 +29,18 @@ use Rattle.search.specs.Posed.{Posed, Searched}
 use Rattle.sequence.specs.Holding.{in_order, Sequenced}
 use Rattle.sequence.specs.Running.{sequenced_room}
 use Rattle.site.specs.declared.Cluster.{Cluster}
-use Rattle.site.specs.declared.Entry.{Entry}
 use Rattle.site.specs.declared.Flow.{Flow}
+use Rattle.site.specs.declared.Kind.{Kind}
+use Rattle.site.specs.declared.Kind.TheVariants.{Header, Cluster as ACluster, Flow as AFlow}
 use Rattle.site.specs.declared.Site.{Site}
 use Rattle.site.specs.declared.Tag.{Tag}
 use Rattle.site.specs.Fields.{header_verdict, untagged_verdict, flow_verdict}
+use Rattle.site.specs.Kinds.{kind_number, some_kind}
 use Rattle.site.specs.Lines.{tag_at}
 use Rattle.site.specs.Records.{same_tag, wrong_parent}
+use Rattle.site.specs.Refusals.{Verdict}
 use Rattle.site.specs.Table.{due, entry_of}
-use Rattle.reader.specs.Reading.{read_text}
+use Rattle.reader.specs.Reading.{read_text, records_of}
 use Rattle.records.specs.Check.{checked}
 use Rattle.shown.specs.Shown.{line_start as line_start_of, line_at as line_at_of, Shown}
 use Rattle.writer.specs.Text.{text_of, written, room_after as written_room}
@@ -69,14 +74,40 @@ pub record SameFigures (a b : Figures) : Type 0 where
   pub permits : (order : ℕ) → permitted order (a.shortest ∷ []) ≡ permitted order (b.shortest ∷ [])
   pub total : a.total ≡ b.total
 
+-- what is decoded of a line is none where it is malformed, else a line with its text
+abbrev pub DecodedFrom : ℕ → Row → Option Line → Type 0
+DecodedFrom most r decoded = (is_none decoded ≡ malformed most r) × IfSome decoded (λ line. line.chars.now ≡ r.chars)
+
+-- a kind is known by its number
+one_kind : (a b : Option Kind) → kind_number a ≡ kind_number b → a ≡ b
+one_kind None None e = refl
+one_kind None (Some b) e = absurd (some_kind b (sym e))
+one_kind (Some a) None e = absurd (some_kind a e)
+one_kind (Some Header) (Some Header) e = refl
+one_kind (Some Header) (Some ACluster) e = absurd (omega (arith, e))
+one_kind (Some Header) (Some AFlow) e = absurd (omega (arith, e))
+one_kind (Some ACluster) (Some Header) e = absurd (omega (arith, e))
+one_kind (Some ACluster) (Some ACluster) e = refl
+one_kind (Some ACluster) (Some AFlow) e = absurd (omega (arith, e))
+one_kind (Some AFlow) (Some Header) e = absurd (omega (arith, e))
+one_kind (Some AFlow) (Some ACluster) e = absurd (omega (arith, e))
+one_kind (Some AFlow) (Some AFlow) e = refl
+
+-- what lies in memory that a reading fills, where it is taken
+both_taken : (v : Verdict) (s₁ s₂ s : Site) → OnOk v (s₁ ≡ s) → OnOk v (s₂ ≡ s) → OnOk v (s₁ ≡ s₂)
+both_taken (Ok _) s₁ s₂ s p q = p ∙ sym q
+both_taken (Err _) s₁ s₂ s p q = tt
+
 pub record EqualResults : Type 0 where
   -- the line layer
   pub is_digit : (b : ℕ) → OneResult (is_digit_of b)
   pub digit_of : (b : ℕ) → OneResult (digit b)
   pub hex_of : (v : ℕ) → OneResult (hex_of v)
-  pub is_malformed : (most : ℕ) (r : Row) (r₁ r₂ : Bool) (bytes₁ bytes₂ : List ℕ) → (r₁ ≡ malformed most r) × (r₁ ≡ false → Decoded r.chars bytes₁)
-      → (r₂ ≡ malformed most r) × (r₂ ≡ false → Decoded r.chars bytes₂) → (r₁ ≡ r₂) × (r₁ ≡ false → bytes₁ ≡ bytes₂)
-  pub byte_of : (line : List ℕ) (k : ℕ) → OneResult (byte_at line k)
+  pub line_decode : (most : ℕ) (r : Row) (r₁ r₂ : Option Line) → DecodedFrom most r r₁ → DecodedFrom most r r₂ → (is_none r₁ ≡ is_none r₂)
+      × ((line₁ line₂ : Line) → r₁ ≡ Some line₁ → r₂ ≡ Some line₂ → (line₁.chars.now ≡ line₂.chars.now) × (line₁.bytes ≡ line₂.bytes))
+  pub line_len : (line : List ℕ) → OneResult (length line / 2)
+  pub line_byte : (line : List ℕ) (k : ℕ) → OneResult (byte_at line k)
+  pub line_four_bytes : (line : List ℕ) (k : ℕ) → OneResult (number_at line k 4)
   pub are_digits : (line : List ℕ) (at n : ℕ) → OneResult (every n (λ j. is_digit_of (get_or line (at + j) 0)))
   pub byte_at : (line : List ℕ) (k : ℕ) → OneResult (byte_at line k)
   pub number_at : (line : List ℕ) (k width : ℕ) → OneResult (number_at line k width)
@@ -97,11 +128,12 @@ pub record EqualResults : Type 0 where
   pub untagged_verdict : (k order len : ℕ) → OneResult (untagged_verdict k order len)
   pub flow_verdict : (k clusters : ℕ) (f : Flow) → OneResult (flow_verdict k clusters f)
   pub bad_parent : (i parent : ℕ) → OneResult (wrong_parent i parent)
-  pub due_at : (k clusters flows : ℕ) → OneResult (due k clusters flows)
+  pub due_at : (k clusters flows : ℕ) (r₁ r₂ : Option Kind) → kind_number r₁ ≡ due k clusters flows → kind_number r₂ ≡ due k clusters flows → r₁ ≡ r₂
   pub read_line : (k clusters flows : ℕ) (r : Row) → OneResult (entry_of k clusters flows r)
-  pub line_entry : (k clusters flows : ℕ) (r : Row) (r₁ r₂ : Entry) (bytes₁ bytes₂ : List ℕ)
-      → (r₁ ≡ entry_of k clusters flows r) × (malformed 136 r ≡ false → Decoded r.chars bytes₁)
-      → (r₂ ≡ entry_of k clusters flows r) × (malformed 136 r ≡ false → Decoded r.chars bytes₂) → (r₁ ≡ r₂) × (malformed 136 r ≡ false → bytes₁ ≡ bytes₂)
+  pub entry_of_line : (k clusters flows : ℕ) (chars : List ℕ) → OneResult (entry_of k clusters flows (record { chars = chars; ended = true }))
+  pub read_into : (text : List ℕ) (r₁ r₂ : Verdict) (s₁ s₂ : Site) → (r₁ ≡ (read_text text).verdict) × OnOk r₁ (s₁ ≡ (read_text text).site)
+      → (r₂ ≡ (read_text text).verdict) × OnOk r₂ (s₂ ≡ (read_text text).site) → (r₁ ≡ r₂) × OnOk r₁ (s₁ ≡ s₂)
+  pub records : (text : List ℕ) → OneResult (records_of (read_text text))
   pub read : (text : List ℕ) → OneResult (read_text text)
   pub check : (s : Site) → OneResult (checked s)
   pub same_tag : (a b : Tag) → OneResult (same_tag a b)
@@ -148,10 +180,15 @@ results_are_equal = record {
   is_digit = λ b. equal_results (is_digit_of b);
   digit_of = λ b. equal_results (digit b);
   hex_of = λ v. equal_results (hex_of v);
-  is_malformed = λ most r r₁ r₂ bytes₁ bytes₂ p q.
-      let e = equal_results (malformed most r) r₁ r₂ p.0 q.0 in
-      (e, λ f. equal_results (filled (byte_at r.chars) (replicate 68 0) (length r.chars / 2)) bytes₁ bytes₂ (p.1 f).bytes (q.1 (sym e ∙ f)).bytes);
-  byte_of = λ line k. equal_results (byte_at line k);
+  line_decode = λ most r r₁ r₂ p q. (
+    equal_results (malformed most r) (is_none r₁) (is_none r₂) p.0 q.0,
+    λ line₁ line₂ e₁ e₂.
+        let chars = equal_results r.chars line₁.chars.now line₂.chars.now (rw e₁ at p.1) (rw e₂ at q.1) in
+        (chars, line₁.decoded.bytes ∙ rw chars (sym line₂.decoded.bytes)),
+  );
+  line_len = λ line. equal_results (length line / 2);
+  line_byte = λ line k. equal_results (byte_at line k);
+  line_four_bytes = λ line k. equal_results (number_at line k 4);
   are_digits = λ line at n. equal_results (every n (λ j. is_digit_of (get_or line (at + j) 0)));
   byte_at = λ line k. equal_results (byte_at line k);
   number_at = λ line k width. equal_results (number_at line k width);
@@ -170,12 +207,13 @@ results_are_equal = record {
   untagged_verdict = λ k order len. equal_results (untagged_verdict k order len);
   flow_verdict = λ k clusters f. equal_results (flow_verdict k clusters f);
   bad_parent = λ i parent. equal_results (wrong_parent i parent);
-  due_at = λ k clusters flows. equal_results (due k clusters flows);
+  due_at = λ k clusters flows r₁ r₂ p q. one_kind r₁ r₂ (equal_results (due k clusters flows) (kind_number r₁) (kind_number r₂) p q);
   read_line = λ k clusters flows r. equal_results (entry_of k clusters flows r);
-  line_entry = λ k clusters flows r r₁ r₂ bytes₁ bytes₂ p q. (
-    equal_results (entry_of k clusters flows r) r₁ r₂ p.0 q.0,
-    λ formed. (p.1 formed).bytes ∙ sym (q.1 formed).bytes,
-  );
+  entry_of_line = λ k clusters flows chars. equal_results (entry_of k clusters flows (record { chars = chars; ended = true }));
+  read_into = λ text r₁ r₂ s₁ s₂ p q.
+      let e = equal_results (read_text text).verdict r₁ r₂ p.0 q.0 in
+      (e, both_taken r₁ s₁ s₂ (read_text text).site p.1 (subst (λ (v : Verdict). OnOk v (s₂ ≡ (read_text text).site)) (sym e) q.1));
+  records = λ text. equal_results (records_of (read_text text));
   read = λ text. equal_results (read_text text);
   check = λ s. equal_results (checked s);
   same_tag = λ a b. equal_results (same_tag a b);

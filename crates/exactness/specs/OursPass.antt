@@ -11,7 +11,7 @@ use Rattle.model.specs.Sequences.{start_in, starts}
 use Rattle.model.specs.SequenceLaws.{start_of_first, start_of_other}
 use Rattle.model.specs.Sites.{portion_of}
 use Rattle.site.specs.declared.Site.{Site}
-use Rattle.site.specs.declared.Verdict.TheVariants.{Accepted}
+use Rattle.site.specs.Refusals.{accepted}
 use Rattle.records.specs.Check.{checked}
 use Rattle.plantext.specs.PlanText.{site_of, plan_text, Fresh}
 use Rattle.plantext.specs.PlanTextLaws.{fresh_each}
@@ -42,12 +42,12 @@ module _ (portion : ℕ → ℕ) (n : ℕ) where
 
 -- ---- the theorem
 
-pub plan_text_is_plan : (s : Site) → checked s ≡ Accepted → (order : ℕ) (sequence : List ℕ) → plan (site_of s) ≡ planned order sequence → PlanAt s (plan_text s order sequence) order
+pub plan_text_is_plan : (s : Site) → checked s ≡ accepted → (order : ℕ) (sequence : List ℕ) → plan (site_of s) ≡ planned order sequence → PlanAt s (plan_text s order sequence) order
 unfolding plan_text starts
-plan_text_is_plan s accepted order sequence e =
+plan_text_is_plan s taken order sequence e =
     let n : ℕ = s.cluster_count in
-    let is : IsPlan (site_of s) order sequence = (plan_is_exact (site_of s) (describes_sound s accepted)).planned_is order sequence e in
-    let fresh : Fresh n [] sequence = rw (clusters_counted s accepted) at (planned_fresh (site_of s) order sequence e).0 in
+    let is : IsPlan (site_of s) order sequence = (plan_is_exact (site_of s) (describes_sound s taken)).planned_is order sequence e in
+    let fresh : Fresh n [] sequence = rw (clusters_counted s taken) at (planned_fresh (site_of s) order sequence e).0 in
     record {
       start = starts (site_of s) sequence;
       sequence = sequence;
@@ -55,7 +55,7 @@ plan_text_is_plan s accepted order sequence e =
       placing = is.placing;
       in_order = record {
         fresh = fresh;
-        all = has_each_cluster n sequence (once s accepted order sequence is);
+        all = has_each_cluster n sequence (once s taken order sequence is);
         rising = sums_rise (portion_of (site_of s)) n [] sequence fresh;
       };
       text_is = refl;

@@ -20,7 +20,7 @@ use Rattle.model.specs.Orders.{interval}
 use Rattle.model.specs.Placing.{OnTime, Placing}
 use Rattle.model.specs.Sites.{size, portion_of}
 use Rattle.site.specs.declared.Site.{Site}
-use Rattle.site.specs.declared.Verdict.TheVariants.{Accepted}
+use Rattle.site.specs.Refusals.{accepted}
 use Rattle.site.specs.Table.{refused_if}
 use Rattle.site.specs.TableLaws.{none_holds, all_accept, test_accepts}
 use Rattle.records.specs.Check.{checked}
@@ -31,8 +31,7 @@ use Rattle.figures.specs.SiteLaws.{clusters_counted}
 use Rattle.planlines.specs.PlanLines.{bad_header, bad_cluster, cluster_start}
 use Rattle.planlines.specs.PlanRead.{start_among, order_in}
 use Rattle.deadlines.specs.Late.{late, some_late}
-use Rattle.checker.specs.Checks.{header_order, header_count, layout_broken, order_refused, wrong_line, wrong_lines, clusters_wrong, cluster_end, overlap, overlapping}
-use Rattle.checker.specs.Checks.{flow_late, plan_verdict}
+use Rattle.checker.specs.Checks.{header_order, header_count, layout_broken, order_refused, wrong_line, wrong_lines, clusters_wrong, cluster_end, overlap, overlapping, flow_late, plan_verdict}
 use Rattle.exactness.specs.PlanFor.{Rising, InOrderOfStart, PlanAt}
 use Rattle.exactness.specs.PlanLinesAgain.{number_in, numbers_in, plan_header_again, Laid, is_laid, Described, is_right, plan_line_again}
 
@@ -123,13 +122,13 @@ module _ (s : Site) where
       let next = is_right s earlier begin q (first_and_rest earlier begin q rs behind).0 in
       (omega (arith, next.no_earlier, h.0, h.1.0), lines_rising start earlier begin (q ∷ rs) behind h.1)
 
-  lines_again : checked s ≡ Accepted → (start : ℕ → ℕ) (rs : List Row) → Each Laid rs → Each (Described s) rs → Starting start rs
+  lines_again : checked s ≡ accepted → (start : ℕ → ℕ) (rs : List Row) → Each Laid rs → Each (Described s) rs → Starting start rs
       → joined rs ≡ lines_of (placed_line s start) (numbers_in rs)
   unfolding lines_of
-  lines_again accepted start [] laid described h = joined_none
-  lines_again accepted start (r ∷ rs) laid described h =
-      plan_line_again s accepted start r laid.0 described.0 h.0 rs
-      ∙ ap (λ (t : List ℕ). line_of (placed_line s start (number_in r)) ++ t) (lines_again accepted start rs laid.1 described.1 h.1)
+  lines_again taken start [] laid described h = joined_none
+  lines_again taken start (r ∷ rs) laid described h =
+      plan_line_again s taken start r laid.0 described.0 h.0 rs
+      ∙ ap (λ (t : List ℕ). line_of (placed_line s start (number_in r)) ++ t) (lines_again taken start rs laid.1 described.1 h.1)
 
   -- ---- 23: portions inside and apart
 
@@ -187,7 +186,7 @@ module _ (s : Site) where
     portions : overlapping (interval (header_order h)) ls ≡ false
     flows : flow_late s h ls ≡ false
 
-  no_test_holds : (h : Row) (ls : List Row) → plan_verdict s (h ∷ ls) ≡ Accepted → NoTestHolds h ls
+  no_test_holds : (h : Row) (ls : List Row) → plan_verdict s (h ∷ ls) ≡ accepted → NoTestHolds h ls
   unfolding plan_verdict
   no_test_holds h ls e =
       let order : ℕ = header_order h in
@@ -206,7 +205,7 @@ module _ (s : Site) where
         flows = test_accepts 24 0 (flow_late s h ls) all.1.1.1.1.0;
       }
 
-  module _ (accepted : checked s ≡ Accepted) (h : Row) (ls : List Row) (none : NoTestHolds h ls) where
+  module _ (taken : checked s ≡ accepted) (h : Row) (ls : List Row) (none : NoTestHolds h ls) where
     abbrev order : ℕ
     order = header_order h
 
@@ -243,7 +242,7 @@ module _ (s : Site) where
     lines_place : Placing (site_of s) order start
     lines_place =
         let portions = portions_placed start (interval order) ls (lines_in_place start ls described starting) none.portions in
-        let line : (c : ℕ) → c < size (site_of s) → member c (numbers_in ls) ≡ true = λ c l. has_line c (omega (arith, clusters_counted s accepted)) in
+        let line : (c : ℕ) → c < size (site_of s) → member c (numbers_in ls) ≡ true = λ c l. has_line c (omega (arith, clusters_counted s taken)) in
         record {
           inside = λ c l. each_member _ (numbers_in ls) c portions.0 (line c l);
           apart = λ c d l m. pairs_members (Apart start) (turned start) (numbers_in ls) c d portions.1 (line c l) (line d m);
@@ -258,22 +257,22 @@ module _ (s : Site) where
     unfolding placed_text
     text_again =
         plan_header_again h n ls laid.0 counted.0
-        ∙ ap (λ (t : List ℕ). line_of (plan_header order n) ++ t) (lines_again accepted start ls laid.1 described starting)
+        ∙ ap (λ (t : List ℕ). line_of (plan_header order n) ++ t) (lines_again taken start ls laid.1 described starting)
 
-  accepted_rows : checked s ≡ Accepted → (plan : List ℕ) (rs : List Row) → rows plan ≡ rs → plan_verdict s rs ≡ Accepted → PlanAt s plan (order_in plan)
+  accepted_rows : checked s ≡ accepted → (plan : List ℕ) (rs : List Row) → rows plan ≡ rs → plan_verdict s rs ≡ accepted → PlanAt s plan (order_in plan)
   unfolding plan_verdict order_in
-  accepted_rows accepted plan [] q e = absurd (let z : ◌≡◌ {A = ℕ} 0 1 = cc in omega arith)
-  accepted_rows accepted plan (h ∷ ls) q e =
+  accepted_rows taken plan [] q e = absurd (let z : ◌≡◌ {A = ℕ} 0 1 = cc in omega arith)
+  accepted_rows taken plan (h ∷ ls) q e =
       let none = no_test_holds h ls e in
       rw (q, order_in) (record {
         start = start_among ls;
         sequence = numbers_in ls;
-        order_permitted = order_is_permitted accepted h ls none;
-        placing = lines_place accepted h ls none;
-        in_order = lines_in_order accepted h ls none;
-        text_is = sym (joined_rows plan) ∙ ap joined q ∙ text_again accepted h ls none;
+        order_permitted = order_is_permitted taken h ls none;
+        placing = lines_place taken h ls none;
+        in_order = lines_in_order taken h ls none;
+        text_is = sym (joined_rows plan) ∙ ap joined q ∙ text_again taken h ls none;
       })
 
 -- an accepted text is a plan for the site, at the order that is read in it
-pub accepted_plan_is_placed : (s : Site) → checked s ≡ Accepted → (plan : List ℕ) → plan_verdict s (rows plan) ≡ Accepted → PlanAt s plan (order_in plan)
-accepted_plan_is_placed s accepted plan e = accepted_rows s accepted plan (rows plan) refl e
+pub accepted_plan_is_placed : (s : Site) → checked s ≡ accepted → (plan : List ℕ) → plan_verdict s (rows plan) ≡ accepted → PlanAt s plan (order_in plan)
+accepted_plan_is_placed s taken plan e = accepted_rows s taken plan (rows plan) refl e

@@ -17,7 +17,7 @@ use Rattle.model.specs.Orders.{portion}
 use Rattle.site.specs.declared.Cluster.{Cluster}
 use Rattle.site.specs.declared.Site.{Site}
 use Rattle.site.specs.declared.Tag.{Tag}
-use Rattle.site.specs.declared.Verdict.TheVariants.{Accepted}
+use Rattle.site.specs.Refusals.{accepted}
 use Rattle.site.specs.Lines.{size, tag_at}
 use Rattle.site.specs.Records.{absent, same_tag}
 use Rattle.records.specs.Check.{checked}
@@ -95,7 +95,7 @@ is_right s above last r good =
     }
 
 -- such a line of the layout is the line of its cluster, where the cluster starts as it says
-module _ (s : Site) (accepted : checked s ≡ Accepted) (start : ℕ → ℕ) (r : Row)
+module _ (s : Site) (taken : checked s ≡ accepted) (start : ℕ → ℕ) (r : Row)
     (laid : Laid r) (described : Described s r) (starts : cluster_start r.chars ≡ start (number_in r)) where
   abbrev l : List ℕ
   l = r.chars
@@ -108,7 +108,7 @@ module _ (s : Site) (accepted : checked s ≡ Accepted) (start : ℕ → ℕ) (r
   tag_length_is = ((same_tag_exactly (tag_at l 11 (tag_length l)) cluster.tag).0 described.tag_is).0
 
   within : ClusterIn cluster
-  within = site_cluster_in s (checked_unrefused s accepted) (number_in r) described.known
+  within = site_cluster_in s (checked_unrefused s taken) (number_in r) described.known
 
   tag_bytes_are : take cluster.tag.len cluster.tag.bytes ≡ drop 11 (bytes_of l)
   unfolding tag_at

@@ -24,7 +24,7 @@ use Rattle.model.specs.Sites.{periods}
 use Rattle.site.specs.declared.Cluster.{Cluster}
 use Rattle.site.specs.declared.Site.{Site}
 use Rattle.site.specs.declared.Tag.{Tag}
-use Rattle.site.specs.declared.Verdict.TheVariants.{Accepted}
+use Rattle.site.specs.Refusals.{accepted}
 use Rattle.site.specs.Lines.{tag_at}
 use Rattle.site.specs.Records.{absent, same_tag}
 use Rattle.records.specs.Check.{checked}
@@ -81,7 +81,7 @@ tag_is_same l k t short h =
     rw (eq-eqb t.len t.len refl)
     (every_all _ t.len (λ i p. eq-eqb _ _ (filled_at (λ j. byte_at l (k + j)) (replicate 64 0) t.len 0 room i p ∙ h i p)))
 
-module _ (s : Site) (accepted : checked s ≡ Accepted) where
+module _ (s : Site) (taken : checked s ≡ accepted) where
   abbrev n : ℕ
   n = s.cluster_count
 
@@ -89,7 +89,7 @@ module _ (s : Site) (accepted : checked s ≡ Accepted) where
   cluster c = get_or s.clusters c absent
 
   few : n ≤ 64
-  few = (counts_in s (checked_unrefused s accepted)).clusters
+  few = (counts_in s (checked_unrefused s taken)).clusters
 
   pub header_says : (order : ℕ) → order ≤ largest → WrittenHeader (header_row s order).chars order n
   unfolding plan_header fields_at
@@ -104,7 +104,7 @@ module _ (s : Site) (accepted : checked s ≡ Accepted) where
   pub starts_fit : (order : ℕ) (start : ℕ → ℕ) → Permitted (site_of s) order → Placing (site_of s) order start → StartsFit s start
   starts_fit order start permitted placing c l = omega (
     arith,
-    placing.inside c (omega (arith, clusters_counted s accepted)),
+    placing.inside c (omega (arith, clusters_counted s taken)),
     symbols_bounded (permitted_is_order order (periods (site_of s)) permitted),
   )
 
@@ -120,7 +120,7 @@ module _ (s : Site) (accepted : checked s ≡ Accepted) where
       values = 130 ∷ c ∷ start c ∷ portion (cluster c).order ∷ (cluster c).tag.len ∷ []
 
       within : ClusterIn (cluster c)
-      within = site_cluster_in s (checked_unrefused s accepted) c l
+      within = site_cluster_in s (checked_unrefused s taken) c l
 
       values_fit : Fit widths values
       values_fit = omega (arith, few, fit c l, within, symbols_bounded within.order)
@@ -176,7 +176,7 @@ module _ (s : Site) (accepted : checked s ≡ Accepted) where
 
     -- each cluster of the records stands in it once
     pub once : (f : ℕ → ℕ) → sum_over f sequence ≡ sum_below n f
-    once f = plan.each_once f ∙ ap (λ m. sum_below m f) (clusters_counted s accepted)
+    once f = plan.each_once f ∙ ap (λ m. sum_below m f) (clusters_counted s taken)
 
     pub order_in_plan_text : order_in (plan_text s order sequence) ≡ order
     unfolding order_in

@@ -26,7 +26,7 @@ use Rattle.model.specs.Sites as model
 use Rattle.site.specs.declared.Cluster.{Cluster}
 use Rattle.site.specs.declared.Site.{Site}
 use Rattle.site.specs.declared.Tag.{Tag}
-use Rattle.site.specs.declared.Verdict.TheVariants.{Accepted}
+use Rattle.site.specs.Refusals.{accepted}
 use Rattle.site.specs.Lines.{size}
 use Rattle.site.specs.Records.{absent}
 use Rattle.records.specs.Check.{checked}
@@ -74,7 +74,7 @@ written_size : (bs : List ℕ) → size (hexes bs) ≡ length bs
 unfolding size
 written_size bs = omega (arith, hexes-length bs)
 
-module _ (s : Site) (accepted : checked s ≡ Accepted) where
+module _ (s : Site) (taken : checked s ≡ accepted) where
   abbrev n : ℕ
   n = s.cluster_count
 
@@ -103,7 +103,7 @@ module _ (s : Site) (accepted : checked s ≡ Accepted) where
 
     module _ (c : ℕ) (l : c < n) where
       says : WrittenLine (row c).chars c (start c) (cluster c)
-      says = line_says s accepted start fit c l
+      says = line_says s taken start fit c l
 
       line_stands : bad_cluster (row c) ≡ false
       unfolding bad_cluster placed_line
@@ -112,7 +112,7 @@ module _ (s : Site) (accepted : checked s ≡ Accepted) where
           let tag : Tag = (cluster c).tag in
           let long : length bytes ≡ 11 + tag.len = omega (
             arith,
-            cluster-length c (start c) (portion (cluster c).order) tag (site_cluster_in s (checked_unrefused s accepted) c l).whole,
+            cluster-length c (start c) (portion (cluster c).order) tag (site_cluster_in s (checked_unrefused s taken) c l).whole,
             line-length bytes,
           ) in
           rw (written_whole bytes (omega arith), says.kind, written_size bytes, says.tag-length, long, le-ltb (11 + tag.len) 11 (omega arith), eq-eqb (11 + tag.len) (11 + tag.len) refl)
@@ -148,12 +148,12 @@ module _ (s : Site) (accepted : checked s ≡ Accepted) where
       ends c = start c + portion (cluster c).order
 
       inside_interval : (c : ℕ) → c < n → ends c ≤ interval order
-      inside_interval c l = rw (← order_at s c l) (placing.inside c (omega (arith, clusters_counted s accepted)))
+      inside_interval c l = rw (← order_at s c l) (placing.inside c (omega (arith, clusters_counted s taken)))
 
       portions_apart : (c d : ℕ) → c < n → d < n → c ≢ d → overlap (row c) (row d) ≡ false
       portions_apart c d l m ne =
           let a = says c l in let b = says d m in
-          let inside : (x : ℕ) → x < n → x < model.size (site_of s) = λ x p. omega (arith, clusters_counted s accepted) in
+          let inside : (x : ℕ) → x < n → x < model.size (site_of s) = λ x p. omega (arith, clusters_counted s taken) in
           rw (a.start_is, a.length_is, b.start_is, b.length_is)
           (elim (placing.apart c d (inside c l) (inside d m) ne) [
             | inl e ↦ let ahead : ends c ≤ start d = rw (← order_at s c l) e in rw (le-ltb (start d) (ends c) ahead) (and-false (ltb (start c) (ends d)))
@@ -173,14 +173,14 @@ module _ (s : Site) (accepted : checked s ≡ Accepted) where
       none_late : (read : ℕ → ℕ) → ((c : ℕ) → c < n → read c ≡ start c) → some_late (site_of s) order read ≡ false
       unfolding some_late
       none_late read same =
-          let placed = same_starts_place (site_of s) order (describes_sound s accepted) start read (λ c l. sym (same c (omega (arith, clusters_counted s accepted)))) placing in
+          let placed = same_starts_place (site_of s) order (describes_sound s taken) start read (λ c l. sym (same c (omega (arith, clusters_counted s taken)))) placing in
           none_passes (late (site_of s) order read) (site_of s).flows (each_imply (site_of s).flows (λ f on_time. le-ltb _ _ on_time) placed.timely)
 
       -- ---- all of them
 
       module _ (sequence : List ℕ) (permitted : Permitted (site_of s) order) (sorted : InOrderOfStart n start sequence) where
         header : WrittenHeader (header_row s order).chars order n
-        header = header_says s accepted order (permitted_is_order order (periods (site_of s)) permitted)
+        header = header_says s taken order (permitted_is_order order (periods (site_of s)) permitted)
 
         clusters : Each (λ c. (c < n) × (member c [] ≡ false)) sequence
         clusters = fresh_each n [] sequence sorted.fresh
@@ -197,21 +197,21 @@ module _ (s : Site) (accepted : checked s ≡ Accepted) where
 
         flows_on_time : flow_late s (header_row s order) (map row sequence) ≡ false
         flows_on_time = rw header.order_is
-            (none_late (start_among (map row sequence)) (λ c l. start_among_lines s accepted start fit c sequence (each_imply sequence (λ x there. there.0) clusters) (sorted.all c l)))
+            (none_late (start_among (map row sequence)) (λ c l. start_among_lines s taken start fit c sequence (each_imply sequence (λ x there. there.0) clusters) (sorted.all c l)))
 
-        rows_accepted : plan_verdict s (header_row s order ∷ map row sequence) ≡ Accepted
+        rows_accepted : plan_verdict s (header_row s order ∷ map row sequence) ≡ accepted
         unfolding plan_verdict
         rows_accepted = rw (layout_kept, order_stands order header permitted, clusters_right, flows_on_time, header.order_is, none_overlaps [] sequence sorted.fresh)
 
 -- ---- the theorems
 
-pub placed_plan_is_accepted : (s : Site) → checked s ≡ Accepted → (plan : List ℕ) (order : ℕ) → PlanAt s plan order → plan_verdict s (rows plan) ≡ Accepted
-placed_plan_is_accepted s accepted plan order p =
+pub placed_plan_is_accepted : (s : Site) → checked s ≡ accepted → (plan : List ℕ) (order : ℕ) → PlanAt s plan order → plan_verdict s (rows plan) ≡ accepted
+placed_plan_is_accepted s taken plan order p =
     let start : ℕ → ℕ = p.start in
-    let fit = starts_fit s accepted order start p.order_permitted p.placing in
-    rw (p.text_is, placed_rows s order start p.sequence) (rows_accepted s accepted start fit order p.placing p.sequence p.order_permitted p.in_order)
+    let fit = starts_fit s taken order start p.order_permitted p.placing in
+    rw (p.text_is, placed_rows s order start p.sequence) (rows_accepted s taken start fit order p.placing p.sequence p.order_permitted p.in_order)
 
-pub order_in_placed_text : (s : Site) → checked s ≡ Accepted → (plan : List ℕ) (order : ℕ) → PlanAt s plan order → order_in plan ≡ order
+pub order_in_placed_text : (s : Site) → checked s ≡ accepted → (plan : List ℕ) (order : ℕ) → PlanAt s plan order → order_in plan ≡ order
 unfolding order_in
-order_in_placed_text s accepted plan order p =
-    rw (p.text_is, placed_rows s order p.start p.sequence, order_in) (header_says s accepted order (permitted_is_order order (periods (site_of s)) p.order_permitted)).order_is
+order_in_placed_text s taken plan order p =
+    rw (p.text_is, placed_rows s order p.start p.sequence, order_in) (header_says s taken order (permitted_is_order order (periods (site_of s)) p.order_permitted)).order_is

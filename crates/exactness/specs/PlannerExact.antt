@@ -2,7 +2,7 @@
 -- records come exactly as the check gives them, with line and place. For records that it accepts a plan comes back exactly if some permitted order has a placing and the room is as long as the plan text,
 -- 9 exactly if some has and the room is shorter, 8 exactly if the portions fit a permitted order and no permitted order has a placing, and 7 exactly if they fit none.
 -- A plan is the published one, its starts are a placing at its order, and no larger permitted order has any. A refusal leaves the room as it was.
-use Rattle.std.specs.Prelude.{◌≡◌, refl, Bool, true, false, ◌↔◌, ◌⊎◌, leb, length, take}
+use Rattle.std.specs.Prelude.{◌≡◌, refl, Bool, true, false, ◌↔◌, ◌⊎◌, leb, length, take, Ok, Err}
 use Rattle.std.proofs.Common.{sym, ap, ◌∙◌, subst, true≢false, arith}
 use mathlib.Core.List.{List, ◌++◌}
 use Rattle.std.proofs.Math.Logic.{inl, inr}
@@ -20,16 +20,15 @@ use Rattle.model.specs.PublishedPlan.{Published, plan_is_published}
 use Rattle.model.specs.Sequences.{starts}
 use Rattle.model.specs.Sites as model
 use Rattle.site.specs.declared.Site.{Site}
-use Rattle.site.specs.declared.Verdict.{Verdict}
-use Rattle.site.specs.declared.Verdict.TheVariants.{Accepted, Refused}
+use Rattle.site.specs.Refusals.{Verdict, accepted}
+use Rattle.site.specs.Told.{refusal}
 use Rattle.site.specs.Table.{record_number}
 use Rattle.records.specs.Check.{checked}
 use Rattle.records.specs.CheckNumbers.{ByRecords, check_by_records}
 use Rattle.plantext.specs.PlanText.{site_of, plan_text}
 use Rattle.figures.specs.SiteLaws.{clusters_counted, describes_sound}
-use Rattle.planner.specs.declared.Planned.{Planned}
-use Rattle.planner.specs.declared.Planned.TheVariants.{Plan, Refused as RefusedPlan}
-use Rattle.planner.specs.Answers.{answer, room_after}
+use Rattle.planner.specs.declared.outcome.Plan.{Plan}
+use Rattle.planner.specs.Answers.{Planned, a_plan, answer, room_after}
 use Rattle.planner.specs.PlanSize.{plan_size, plan_text_size}
 use Rattle.planlines.specs.PlanRead.{order_in, lines_for, starts_in}
 use Rattle.exactness.specs.PlanReadLaws.{order_in_plan_text, starts_in_plan_text, one_line_each, no_other_line}
@@ -57,28 +56,28 @@ pub record PlanIn (s : Site) (before : List ℕ) (len order : ℕ) (after : List
   pub bytes : after ≡ plan_text s order sequence ++ drop len before
 
 abbrev pub Taken : Site → Type 0
-Taken s = checked s ≡ Accepted
+Taken s = checked s ≡ accepted
 
 -- the answer r to the records s, and the room before and after it
 pub record ExactAnswer (s : Site) (before : List ℕ) (r : Planned) (after : List ℕ) : Type 0 where
-  pub refused_exactly : (number line place : ℕ) → record_number number ≡ true → (r ≡ RefusedPlan number line place) ↔ (checked s ≡ Refused number line place)
-  pub planned_exactly : ((len order : ℕ) × (r ≡ Plan len order)) ↔ (Taken s × Placeable (site_of s) × (plan_size s ≤ length before))
-  pub plan_is_placing : (len order : ℕ) → r ≡ Plan len order → PlanIn s before len order after
-  pub short_exactly : (r ≡ RefusedPlan 9 0 255) ↔ (Taken s × Placeable (site_of s) × (length before < plan_size s))
-  pub late_exactly : (r ≡ RefusedPlan 8 0 255) ↔ (Taken s × Late (site_of s))
-  pub misfit_exactly : (r ≡ RefusedPlan 7 0 255) ↔ (Taken s × Misfit (site_of s))
+  pub refused_exactly : (number line place : ℕ) → record_number number ≡ true → (r ≡ Err (refusal number line place)) ↔ (checked s ≡ Err (refusal number line place))
+  pub planned_exactly : ((len order : ℕ) × (r ≡ a_plan len order)) ↔ (Taken s × Placeable (site_of s) × (plan_size s ≤ length before))
+  pub plan_is_placing : (len order : ℕ) → r ≡ a_plan len order → PlanIn s before len order after
+  pub short_exactly : (r ≡ Err (refusal 9 0 255)) ↔ (Taken s × Placeable (site_of s) × (length before < plan_size s))
+  pub late_exactly : (r ≡ Err (refusal 8 0 255)) ↔ (Taken s × Late (site_of s))
+  pub misfit_exactly : (r ≡ Err (refusal 7 0 255)) ↔ (Taken s × Misfit (site_of s))
   -- no other refusal is given
-  pub refusal_known : (number line place : ℕ) → r ≡ RefusedPlan number line place → (record_number number ≡ true) ⊎ ((7 ≤ number) × (number ≤ 9) × (line ≡ 0) × (place ≡ 255))
-  pub refusal_writes_nothing : (number line place : ℕ) → r ≡ RefusedPlan number line place → after ≡ before
+  pub refusal_known : (number line place : ℕ) → r ≡ Err (refusal number line place) → (record_number number ≡ true) ⊎ ((7 ≤ number) × (number ≤ 9) × (line ≡ 0) × (place ≡ 255))
+  pub refusal_writes_nothing : (number line place : ℕ) → r ≡ Err (refusal number line place) → after ≡ before
 
 -- ---- one of five comes back
 
 pub data Answered (s : Site) (before : List ℕ) (r : Planned) (after : List ℕ) : Type 0 where
-  refuses : (number line place : ℕ) → checked s ≡ Refused number line place → record_number number ≡ true → r ≡ RefusedPlan number line place → after ≡ before → Answered s before r after
-  plans : (len order : ℕ) → Taken s → Placeable (site_of s) → plan_size s ≤ length before → PlanIn s before len order after → r ≡ Plan len order → Answered s before r after
-  short : Taken s → Placeable (site_of s) → length before < plan_size s → r ≡ RefusedPlan 9 0 255 → after ≡ before → Answered s before r after
-  late : Taken s → Late (site_of s) → r ≡ RefusedPlan 8 0 255 → after ≡ before → Answered s before r after
-  misfit : Taken s → Misfit (site_of s) → r ≡ RefusedPlan 7 0 255 → after ≡ before → Answered s before r after
+  refuses : (number line place : ℕ) → checked s ≡ Err (refusal number line place) → record_number number ≡ true → r ≡ Err (refusal number line place) → after ≡ before → Answered s before r after
+  plans : (len order : ℕ) → Taken s → Placeable (site_of s) → plan_size s ≤ length before → PlanIn s before len order after → r ≡ a_plan len order → Answered s before r after
+  short : Taken s → Placeable (site_of s) → length before < plan_size s → r ≡ Err (refusal 9 0 255) → after ≡ before → Answered s before r after
+  late : Taken s → Late (site_of s) → r ≡ Err (refusal 8 0 255) → after ≡ before → Answered s before r after
+  misfit : Taken s → Misfit (site_of s) → r ≡ Err (refusal 7 0 255) → after ≡ before → Answered s before r after
 
 module _ (s : Site) (accepted : Taken s) where
   exact : Exact (site_of s)
@@ -131,8 +130,8 @@ unfolding answer room_after
 planner_answered s room = by_verdict (checked s) refl
   where
     by_verdict : (v : Verdict) → checked s ≡ v → Answered s room (answer s (length room)) (room_after s room)
-    by_verdict Accepted e = answered_by_outcome s e room (plan (site_of s)) refl
-    by_verdict (Refused number line place) e = refuses number line place e (subst ByRecords e (check_by_records s)) (rw e) (rw e)
+    by_verdict (Ok _) e = answered_by_outcome s e room (plan (site_of s)) refl
+    by_verdict (Err (refusal number line place)) e = refuses number line place e (subst ByRecords e (check_by_records s)) (rw e) (rw e)
 
 -- ---- and each exactly where it should
 
@@ -141,7 +140,7 @@ pub not_in : (set : ℕ → Bool) (m x : ℕ) → set m ≡ true → set x ≡ f
 not_in set m x known none q = true≢false (sym known ∙ ap set q ∙ none)
 
 module _ (s : Site) where
-  pub accepted_or_refused : {A : Type 0} (number line place : ℕ) → Taken s → checked s ≡ Refused number line place → A
+  pub accepted_or_refused : {A : Type 0} (number line place : ℕ) → Taken s → checked s ≡ Err (refusal number line place) → A
   accepted_or_refused number line place a e = absurd (let z : ◌≡◌ {A = ℕ} 0 1 = cc in omega arith)
 
   pub placeable_not_late : {A : Type 0} → Placeable (site_of s) → Late (site_of s) → A
@@ -193,7 +192,9 @@ module _ (s : Site) (before : List ℕ) (r : Planned) (after : List ℕ) (answer
     );
     plan_is_placing = λ len order e. elim answered [
       | refuses m k p c h is same ↦ absurd (let z : ◌≡◌ {A = ℕ} 0 1 = cc in omega arith)
-      | plans n o a p fits text is ↦ let q : n ≡ len = cc in let t : o ≡ order = cc in rw (q, t) at text
+      | plans n o a p fits text is ↦
+          let same : ◌≡◌ {A = Plan} (record { length = n; order = o }) (record { length = len; order = order }) = cc in
+          rw (ap (λ (plan : Plan). plan.length) same, ap (λ (plan : Plan). plan.order) same) at text
       | short a p less is same ↦ absurd (let z : ◌≡◌ {A = ℕ} 0 1 = cc in omega arith)
       | late a l is same ↦ absurd (let z : ◌≡◌ {A = ℕ} 0 1 = cc in omega arith)
       | misfit a m is same ↦ absurd (let z : ◌≡◌ {A = ℕ} 0 1 = cc in omega arith)

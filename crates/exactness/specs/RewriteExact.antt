@@ -1,7 +1,7 @@
 -- The number of `cartheron_rewrite` is exact, for any text and any room (docs/FORMATS.md, "The program and the C functions"): it is below 65,536 exactly if the text reads and
 -- the room is as long as it. The room then begins with that same text. It is 65,536 x 9 exactly if the text reads and the room is shorter, and 65,536 x m + k for one of
 -- the site's own numbers m exactly if the reader refuses by m at line k. There is no 7 and no 8.
-use Rattle.std.specs.Prelude.{◌≡◌, true, List, ◌++◌, ◌↔◌, ◌⊎◌, ℕ, ◌+◌, ◌*◌, ◌≤◌, ◌<◌, leb}
+use Rattle.std.specs.Prelude.{◌≡◌, true, List, ◌++◌, ◌↔◌, ◌⊎◌, ℕ, ◌+◌, ◌*◌, ◌≤◌, ◌<◌, leb, Ok, Err}
 use Rattle.std.proofs.Math.Path.{refl}
 use Rattle.std.proofs.Common.{sym, ◌∙◌, arith, leb-true, leb-false}
 use Rattle.std.proofs.Math.Logic.{inl, inr}
@@ -9,8 +9,8 @@ use Rattle.std.proofs.Math.ListN.{length, drop}
 use Rattle.hexline.specs.Loops.{decide}
 use Rattle.hexroom.specs.Room.{handed}
 use Rattle.site.specs.declared.Site.{Site}
-use Rattle.site.specs.declared.Verdict.{Verdict}
-use Rattle.site.specs.declared.Verdict.TheVariants.{Accepted, Refused}
+use Rattle.site.specs.Refusals.{Verdict}
+use Rattle.site.specs.Told.{refusal}
 use Rattle.site.specs.Table.{own_number}
 use Rattle.reader.specs.Reading.{read_text}
 use Rattle.writer.specs.Text.{written, room_after as written_room}
@@ -23,7 +23,7 @@ use Rattle.exactness.specs.CallerExact.{Reads, refusal_in_range, own_large, own_
 
 -- the number n for a text, and the room before and after it
 pub record ExactRewrite (text before : List ℕ) (n : ℕ) (after : List ℕ) : Type 0 where
-  pub refused_exactly : (number line : ℕ) → own_number number ≡ true → line < 65536 → (n ≡ 65536 * number + line) ↔ ((place : ℕ) × ((read_text text).verdict ≡ Refused number line place))
+  pub refused_exactly : (number line : ℕ) → own_number number ≡ true → line < 65536 → (n ≡ 65536 * number + line) ↔ ((place : ℕ) × ((read_text text).verdict ≡ Err (refusal number line place)))
   pub written_exactly : (n < 65536) ↔ ((s : Site) × Reads text s × (length text ≤ length before))
   pub text_is : n < 65536 → (n ≡ length text) × (after ≡ text ++ drop n before)
   pub short_exactly : (n ≡ 65536 * 9) ↔ ((s : Site) × Reads text s × (length before < length text))
@@ -34,7 +34,7 @@ pub record ExactRewrite (text before : List ℕ) (n : ℕ) (after : List ℕ) : 
 -- ---- one of three comes back
 
 data Rewrote (text before : List ℕ) (n : ℕ) (after : List ℕ) : Type 0 where
-  refuses : (m k p : ℕ) → (read_text text).verdict ≡ Refused m k p → (own_number m ≡ true) × (k ≤ 194) → n ≡ 65536 * m + k → after ≡ before → Rewrote text before n after
+  refuses : (m k p : ℕ) → (read_text text).verdict ≡ Err (refusal m k p) → (own_number m ≡ true) × (k ≤ 194) → n ≡ 65536 * m + k → after ≡ before → Rewrote text before n after
   writes : (s : Site) → Reads text s → length text ≤ length before → n ≡ length text → n ≤ 11721 → after ≡ text ++ drop n before → Rewrote text before n after
   short : (s : Site) → Reads text s → length before < length text → n ≡ 65536 * 9 → after ≡ before → Rewrote text before n after
 
@@ -57,8 +57,8 @@ module _ (text room : List ℕ) where
   rewrote = by_verdict (read_text text).verdict refl
     where
       by_verdict : (v : Verdict) → (read_text text).verdict ≡ v → Rewrote text room number (rewrite_room text room)
-      by_verdict (Refused m k p) e = refuses m k p e (refusal_in_range text m k p e) (rw e) (rw e)
-      by_verdict Accepted e = rewritten_by_writer (read_text text).site (λ i. record { site = (read_text text).site; verdict = e i })
+      by_verdict (Err (refusal m k p)) e = refuses m k p e (refusal_in_range text m k p e) (rw e) (rw e)
+      by_verdict (Ok _) e = rewritten_by_writer (read_text text).site (λ i. record { site = (read_text text).site; verdict = e i })
 
   -- ---- and each exactly where it should
 

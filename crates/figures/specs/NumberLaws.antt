@@ -1,19 +1,21 @@
 -- What the loop over the flows wants: a filled array is a number of each record, one period more, and the depths of a path's top and its sink.
-use Rattle.std.specs.Prelude.{◌≡◌, List, map, ℕ, ◌+◌, ◌-◌, ◌≤◌, ◌<◌, min, length, get_or, take, drop}
+use Rattle.std.specs.Prelude.{◌≡◌, List, map, ℕ, ◌+◌, ◌-◌, ◌≤◌, ◌<◌, min, length, get_or, take, drop, replicate}
 use Rattle.std.proofs.Common.{sym, ◌∙◌, arith, drop_of_length-le, ext_get_or, get_or-take}
+use Rattle.std.proofs.lemmas.List.{take-take}
 use Rattle.std.proofs.Math.Path.{ap}
 use Rattle.std.proofs.Math.ListN.{length-map, get_or-map}
 use Rattle.std.proofs.Math.Seq.{length-take-le}
-use Rattle.hexline.specs.Loops.{filled, filled-length, filled_at}
+use Rattle.hexline.specs.Loops.{filled, filled-length, filled_at, filled-same}
 use Rattle.model.specs.Counting.{at, values}
-use Rattle.model.specs.CountingLaws.{values_at}
+use Rattle.model.specs.CountingLaws.{values_at, sum_same}
 use Rattle.model.specs.Orders.{shortest}
 use Rattle.model.specs.PlanLaws.{shortest_next}
 use Rattle.model.specs.Trees.{Tree, depth, top}
 use Rattle.tree.specs.TopLaws.{top_above}
+use Rattle.site.specs.declared.Cluster.{Cluster}
 use Rattle.site.specs.declared.Flow.{Flow}
-use Rattle.site.specs.Records.{no_flow}
-use Rattle.figures.specs.Numbers.{periods_of, descent_in}
+use Rattle.site.specs.Records.{absent, no_flow}
+use Rattle.figures.specs.Numbers.{parents_of, portions_of, flow_numbers, periods_of, descent_in}
 
 -- the part of a filled array that counts, where it was filled with h of each element
 pub filled_is_map : {A : Type 0} (g : ℕ → ℕ) (h : A → ℕ) (l : List ℕ) (xs : List A) (d : A) (n : ℕ) → n ≤ length l → length xs ≡ n
@@ -23,6 +25,22 @@ filled_is_map g h l xs d n room e same =
     ext_get_or (h d) (take n (filled g l n)) (map h xs) (first ∙ sym e ∙ sym (length-map xs h)) (λ i p.
     let below : i < n = omega arith in
     get_or-take n (filled g l n) i (h d) below ∙ filled_at g l n (h d) room i below ∙ same i below ∙ sym (get_or-map h xs i d))
+
+-- what counts of an array is all that is looked at
+module _ (clusters front : List Cluster) (n : ℕ) (counts : front ≡ take n clusters) where
+  pub parents_counted : parents_of front n ≡ parents_of clusters n
+  parents_counted = filled-same _ _ (replicate 64 0) n (λ i l. rw (counts, get_or-take n clusters i absent l))
+
+  pub portions_counted : portions_of front n ≡ portions_of clusters n
+  portions_counted = sum_same n _ _ (λ i l. rw (counts, get_or-take n clusters i absent l))
+
+module _ (flows front : List Flow) (n : ℕ) (counts : front ≡ take n flows) where
+  pub numbers_counted : (number : Flow → ℕ) → flow_numbers number front n ≡ flow_numbers number flows n
+  numbers_counted number = filled-same _ _ (replicate 128 0) n (λ i l. rw (counts, get_or-take n flows i no_flow l))
+
+  pub counted_periods : periods_of front n ≡ periods_of flows n
+  unfolding periods_of
+  counted_periods = rw (counts, take-take n n flows (omega arith))
 
 -- the required periods of the first n flows: how many there are, and which stands at a place
 module _ (flows : List Flow) (n : ℕ) (h : n ≤ length flows) where

@@ -1,4 +1,4 @@
--- Accepted records describe a sound site, and the numbers taken from them are that site's.
+-- accepted records describe a sound site, and the numbers taken from them are that site's.
 use Rattle.std.specs.Prelude.{◌≡◌, refl, List, [], ◌∷◌, map, ℕ, zero, suc, ◌≤◌, ◌<◌, length, get_or, take, replicate}
 use Rattle.std.proofs.Common.{sym, ◌∙◌, inl, inr, arith, get_or-take}
 use Rattle.std.proofs.Math.Path.{ap}
@@ -16,12 +16,12 @@ use Rattle.plantext.specs.PlanTextLaws.{field_at, order_at}
 use Rattle.site.specs.declared.Cluster.{Cluster}
 use Rattle.site.specs.declared.Flow.{Flow}
 use Rattle.site.specs.declared.Site.{Site}
-use Rattle.site.specs.declared.Verdict.TheVariants.{Accepted}
+use Rattle.site.specs.Refusals.{accepted}
 use Rattle.records.specs.Check.{checked}
 use Rattle.records.specs.Checked.{checked_unrefused, counts_in, cluster_tests, site_flow_in, clusters_reach, flows_reach}
 use Rattle.site.specs.Records.{absent, no_flow, wrong_parent}
 use Rattle.figures.specs.Numbers.{parents_of, portions_of, flow_numbers, periods_of, descent_in}
-use Rattle.figures.specs.NumberLaws.{filled_is_map}
+use Rattle.figures.specs.NumberLaws.{filled_is_map, numbers_counted, counted_periods}
 
 -- ## Lists
 
@@ -47,7 +47,7 @@ long_period o p ps h = elim (passes_or_fails (is_order o)) [
 
 -- ## The site that accepted records describe
 
-module _ (s : Site) (accepted : checked s ≡ Accepted) where
+module _ (s : Site) (accepted : checked s ≡ accepted) where
   abbrev n : ℕ
   n = s.cluster_count
 
@@ -128,3 +128,11 @@ module _ (s : Site) (accepted : checked s ≡ Accepted) where
     permits_alike least q o =
         let all : periods_of s.flows j ≡ model.periods m = rw e periods_are in
         ap (λ (p : ℕ). permitted o (p ∷ [])) q ∙ sym (shortest_decides o 1000000000 (periods_of s.flows j)) ∙ long_period o 1000000000 (periods_of s.flows j) (omega arith) ∙ ap (permitted o) all
+
+  -- the same of the flows that count
+  module _ (flows : List Flow) (counts : flows ≡ take f s.flows) (number : length flows ≡ f) where
+    pub counted_numbers : (h : model.Flow → ℕ) (xs : List ℕ) → xs ≡ flow_numbers (λ g. h (model_flow g)) flows (length flows) → take (length flows) xs ≡ map h m.flows
+    counted_numbers h xs q = numbers_are (length flows) number h xs (q ∙ rw number (numbers_counted s.flows flows f counts (λ g. h (model_flow g))))
+
+    pub counted_permit_alike : (least : ℕ) → least ≡ shortest 1000000000 (periods_of flows (length flows)) → (o : ℕ) → permitted o (least ∷ []) ≡ permitted o (model.periods m)
+    counted_permit_alike least q = permits_alike (length flows) number least (q ∙ ap (shortest 1000000000) (rw number (counted_periods s.flows flows f counts)))

@@ -3,12 +3,16 @@
 // is worked on as a whole. What a line is, is then read off the bytes.
 #![tactic(auto)]
 
+mod line;
+
 ghost use Rattle.std.specs.Prelude.{◌≡◌, true, false, ◌+◌, ◌*◌, ◌/◌, ◌%◌, ◌≤◌, ◌<◌, length, get_or, replicate};
 ghost use Rattle.hexline.specs.Digits.{is_digit, all_digits, byte_at};
 ghost use Rattle.hexline.specs.Lines.{malformed};
 ghost use Rattle.hexline.specs.Loops.{every, filled};
 ghost use Rattle.hexbytes.specs.Blocks.{laid};
 ghost use Rattle.hexbytes.specs.Decoded.{Decoded, nibble as nibble_of, pair_at, raw_at};
+
+pub use line::Line;
 
 // The value of a digit, without a test; some number for another character.
 pub fn nibble(c: u8) -> u8
@@ -123,33 +127,4 @@ fn decode(line: &[u8], out: &mut [u8; 68]) -> bool
         16..=31 => decode_blocks::<8, 16>(line, out),
         _ => decode_blocks::<16, 32>(line, out),
     }
-}
-
-// Whether a line is no row of whole bytes: no digits, more than `most`, an odd number of them,
-// another character, or no LF behind it. Where it is one, its bytes stand in `bytes`.
-pub fn is_malformed(line: &[u8], ended: bool, most: usize, bytes: &mut [u8; 68]) -> bool
-    requires { (most ≤ 136) × (bytes.old ≡ replicate 68 0) }
-    ensures { (result ≡ malformed most (record { chars = line.now; ended = ended })) × (result ≡ false → Decoded line.now bytes.new) }
-{
-    if line.len() == 0 {
-        return true;
-    }
-    if line.len() > most {
-        return true;
-    }
-    if line.len() % 2 != 0 {
-        return true;
-    }
-    if !decode(line, bytes) {
-        return true;
-    }
-    !ended
-}
-
-// Byte k of a line, read off its bytes. The line is there for the contract; no code reads it.
-pub fn byte_of(line: &[u8], bytes: &[u8; 68], k: usize) -> u8
-    requires { (Decoded line.now bytes.now) × (2 * k + 1 < length line.now) }
-    ensures { result ≡ byte_at line.now k }
-{
-    bytes[k]
 }

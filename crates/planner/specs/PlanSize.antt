@@ -16,7 +16,7 @@ use Rattle.model.specs.Plans.{plan, planned}
 use Rattle.model.specs.Sequences.{starts}
 use Rattle.site.specs.declared.Cluster.{Cluster}
 use Rattle.site.specs.declared.Site.{Site}
-use Rattle.site.specs.declared.Verdict.TheVariants.{Accepted}
+use Rattle.site.specs.Refusals.{accepted}
 use Rattle.site.specs.Records.{absent}
 use Rattle.records.specs.Check.{checked}
 use Rattle.records.specs.Checked.{checked_unrefused, counts_in, site_cluster_in}
@@ -40,7 +40,7 @@ unfolding sum_below
 sum_at_most zero most f h = omega arith
 sum_at_most (suc n) most f h = omega (arith, h n (omega arith), sum_at_most n most f (λ i l. h i (omega arith)), suc-mul n most)
 
-module _ (s : Site) (accepted : checked s ≡ Accepted) where
+module _ (s : Site) (accepted : checked s ≡ accepted) where
   pub plan_size_at_most : plan_size s ≤ 9673
   unfolding plan_size
   plan_size_at_most =

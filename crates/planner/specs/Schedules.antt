@@ -2,19 +2,19 @@
 use Rattle.std.specs.Prelude.{◌≡◌, Result, Ok, Err, List, ℕ, ◌≤◌, length, take}
 use Rattle.model.specs.Plans.{Outcome, planned, no_fit, no_placing, plan}
 use Rattle.model.specs.Sites.{Site}
-use Rattle.planner.specs.declared.Schedule.{Schedule}
 use Rattle.search.specs.declared.NoPlan.{NoPlan}
 use Rattle.search.specs.declared.NoPlan.TheVariants.{NoFit, NoPlacing}
+use Rattle.planner.specs.declared.Schedule.{Schedule}
 
--- the outcome that a schedule says, the clusters in order of start being the first entries of a slice
+-- the outcome that a schedule says, or that there is none, the clusters in order of start being the first entries of a slice
 unfoldable pub scheduled_as : Result Schedule NoPlan → List ℕ → Outcome
-scheduled_as (Ok made) placed = planned made.order (take made.count placed)
+scheduled_as (Ok schedule) placed = planned schedule.order (take schedule.count placed)
 scheduled_as (Err NoFit) placed = no_fit
 scheduled_as (Err NoPlacing) placed = no_placing
 
 -- and how many entries it speaks of
 unfoldable pub scheduled_count : Result Schedule NoPlan → ℕ
-scheduled_count (Ok made) = made.count
+scheduled_count (Ok schedule) = schedule.count
 scheduled_count (Err NoFit) = 0
 scheduled_count (Err NoPlacing) = 0
 

@@ -1,30 +1,24 @@
 // The planner: from a site's records to the plan text in a lent room, or a refusal.
 #![tactic(auto)]
 
+mod outcome;
+
 ghost use Rattle.std.specs.Prelude.{◌≡◌, length};
 ghost use Rattle.model.specs.Plans.{plan as plan_of};
 ghost use Rattle.model.specs.Sites.{Site as Described};
 ghost use Rattle.plantext.specs.PlanText.{site_of};
-ghost use Rattle.site.specs.declared.Verdict.TheVariants.{Accepted};
-ghost use Rattle.records.specs.Check.{checked};
 ghost use Rattle.search.specs.Posed.{Posed};
 ghost use Rattle.planner.specs.Answers.{outcome_answer, outcome_room, answer, room_after};
 ghost use Rattle.planner.specs.Schedules.{Scheduled};
 
-use model::{Order, wide};
+use model::Order;
+pub use outcome::Plan;
+use records::Accepted;
 use search::{Figures, NoPlan};
-use site::{NO_PLACE, Site, Verdict};
+use site::{Reason, Refusal, Site};
 
-// What the planner answers: how many bytes of the room the plan text fills and the beacon order, or
-// the refusal.
-#[derive(Drop)]
-pub enum Planned {
-    Plan { length: usize, order: u8 },
-    Refused { number: u8, line: usize, place: u16 },
-}
-
-// The order and how many clusters are placed.
-#[derive(Clone, Copy, Debug, PartialEq, Eq, Drop)]
+// The order, and how many clusters are placed.
+#[derive(Clone, Copy)]
 struct Schedule {
     order: u8,
     count: usize,
@@ -39,82 +33,60 @@ fn place_clusters(figures: &Figures, placed: &mut [u8]) -> Result<Schedule, NoPl
     let n = figures.cluster_count;
     let mut counts = [0; 64];
     let order = search::search(figures, &mut counts[..n])?;
+    // Taken out whole, as the search does it.
     let parents = figures.parents;
     let count = sequence::sequence(&parents[..n], &counts[..n], placed);
     Ok(Schedule { order, count })
 }
 
-fn refused(number: u8, line: usize, place: u16) -> Planned
-    ensures { result ≡ Planned.Refused number line place }
-{
-    Planned::Refused {
-        number,
-        line,
-        place,
-    }
-}
-
 // Plans accepted records: 7 or 8 where there is no plan, 9 where the room is shorter than its text.
 // The clusters are walked twice: for their parents, the sum of their portions and the length of the
 // text, which no order of start changes; and in order of start for the lines, each cluster starting
-// where the one before it ends.
-pub fn plan_accepted(site: Site, room: &mut [u8]) -> Planned
-    requires { checked site ≡ Accepted }
-    ensures { (result ≡ outcome_answer site (plan_of (site_of site)) (length room.old)) × (room.new ≡ outcome_room site (plan_of (site_of site)) room.old) }
+// where the one before it ends. Its arrays stand in a frame of their own: in its caller's they would lie
+// under what reads the records too.
+#[inline(never)]
+pub fn plan_accepted(site: Accepted, room: &mut [u8]) -> Result<Plan, Refusal>
+    ensures { (result ≡ outcome_answer site.entry.site.now (plan_of (site_of site.entry.site.now)) (length room.old)) × (room.new ≡ outcome_room site.entry.site.now (plan_of (site_of site.entry.site.now)) room.old) }
 {
-    let n = wide(site.cluster_count);
-    let mut placed = [0; 64];
-    let clusters = site.clusters;
+    let clusters = site.clusters();
     let mut parents = [0; 64];
     let mut total: u32 = 0;
     let mut size: usize = 9;
-    let mut i: usize = 0;
-    while i < n {
-        let cluster = clusters[i];
+    for (i, cluster) in clusters.iter().enumerate() {
         parents[i] = cluster.parent;
         total += Order::new(cluster.order).portion();
-        size += 23 + 2 * wide(cluster.tag.len);
-        i += 1;
+        size += 23 + 2 * usize::from(cluster.tag.len);
     }
-    let schedule = place_clusters(&figures::figures_of(site, parents, total), &mut placed[..n]);
-    match schedule {
-        Err(NoPlan::NoFit) => refused(7, 0, NO_PLACE),
-        Err(NoPlan::NoPlacing) => refused(8, 0, NO_PLACE),
-        Ok(Schedule { order, count }) => {
-            if room.len() < size {
-                return refused(9, 0, NO_PLACE);
-            }
-            let mut length = plantext::put_header(room, order, site.cluster_count);
-            let mut start: u32 = 0;
-            let mut k: usize = 0;
-            while k < count {
-                let number = placed[k];
-                let c = wide(number);
-                let cluster = clusters[c];
-                let portion = Order::new(cluster.order).portion();
-                length = plantext::put_cluster(room, length, number, start, portion, cluster.tag);
-                start += portion;
-                k += 1;
-            }
-            Planned::Plan { length, order }
-        }
+    let figures = figures::figures_of(site, parents, total);
+    let mut placed = [0; 64];
+    let schedule = match place_clusters(&figures, &mut placed[..clusters.len()]) {
+        Ok(schedule) => schedule,
+        Err(NoPlan::NoFit) => return Err(Reason::NoFit.in_line(0)),
+        Err(NoPlan::NoPlacing) => return Err(Reason::NoPlacing.in_line(0)),
+    };
+    if room.len() < size {
+        return Err(Reason::ShortRoom.in_line(0));
     }
+    let order = schedule.order;
+    let mut length = plantext::put_header(room, order, site.site.cluster_count);
+    let mut start: u32 = 0;
+    for &number in &placed[..schedule.count] {
+        let cluster = &clusters[usize::from(number)];
+        let portion = Order::new(cluster.order).portion();
+        length = plantext::put_cluster(room, length, number, start, portion, &cluster.tag);
+        start += portion;
+    }
+    Ok(Plan { length, order })
 }
 
 // Plans a site and writes the plan text into the room. Records that `check` refuses are refused
 // alike; then come 7 and 8 where there is no plan and 9 for a room shorter than the
 // text, with line 0. A refusal leaves the room as it was, and the bytes behind the text stay in any
 // case.
-pub fn plan(site: Site, room: &mut [u8]) -> Planned
-    ensures { (result ≡ answer site (length room.old)) × (room.new ≡ room_after site room.old) }
+#[tactic(auto, unfolding(crate::specs::Answers::answer, crate::specs::Answers::room_after))]
+pub fn plan(site: &Site, room: &mut [u8]) -> Result<Plan, Refusal>
+    ensures { (result ≡ answer site.now (length room.old)) × (room.new ≡ room_after site.now room.old) }
 {
-    let verdict = records::check(site);
-    match verdict {
-        Verdict::Refused {
-            number,
-            line,
-            place,
-        } => refused(number, line, place),
-        Verdict::Accepted => plan_accepted(site, room),
-    }
+    records::check(site)?;
+    plan_accepted(Accepted { site }, room)
 }

@@ -10,7 +10,7 @@ use Rattle.site.specs.declared.Cluster.{Cluster}
 use Rattle.site.specs.declared.Flow.{Flow}
 use Rattle.site.specs.declared.Site.{Site}
 use Rattle.site.specs.declared.Tag.{Tag}
-use Rattle.site.specs.declared.Verdict.TheVariants.{Accepted}
+use Rattle.site.specs.Refusals.{accepted}
 use Rattle.site.specs.Records.{absent}
 use Rattle.records.specs.Check.{checked}
 
@@ -61,6 +61,6 @@ Fresh n earlier (c ∷ cs) = (c < n) × (member c earlier ≡ false) × Fresh n 
 
 -- records that the check accepts, and a sequence of their clusters
 pub record Placed (s : Site) (sequence : List ℕ) : Type 0 where
-  pub accepted : checked s ≡ Accepted
+  pub accepted : checked s ≡ accepted
   pub fresh : Fresh s.cluster_count [] sequence
   pub short : length sequence ≤ 64

@@ -7,10 +7,10 @@ ghost use Rattle.hexroom.specs.Room.{put as put_at};
 ghost use Rattle.plantext.specs.PlanText.{plan_header, cluster_line};
 
 use hexroom::Field;
-use model::wide;
 use site::Tag;
 
 // Writes the header line at the room's start, and gives the place behind it.
+#[tactic(auto, unfolding(crate::specs::PlanText::plan_header))]
 pub fn put_header(room: &mut [u8], order: u8, clusters: u8) -> usize
     requires { size (line_of (plan_header order clusters)) ≤ size room.old }
     ensures { (result ≡ size (line_of (plan_header order clusters))) × (room.new ≡ put_at room.old 0 (line_of (plan_header order clusters))) }
@@ -25,19 +25,18 @@ pub fn put_header(room: &mut [u8], order: u8, clusters: u8) -> usize
 }
 
 // Writes the line of a cluster at `at`, and gives the place behind it.
+#[tactic(auto, unfolding(crate::specs::PlanText::cluster_line))]
 pub fn put_cluster(
     room: &mut [u8],
     at: usize,
     cluster: u8,
     start: u32,
     portion: u32,
-    tag: Tag,
+    tag: &Tag,
 ) -> usize
-    requires { (tag.len ≤ 64) × (at + size (line_of (cluster_line cluster start portion tag)) ≤ size room.old) }
-    ensures { (result ≡ at + size (line_of (cluster_line cluster start portion tag))) × (room.new ≡ put_at room.old at (line_of (cluster_line cluster start portion tag))) }
+    requires { (tag.now.len ≤ 64) × (at + size (line_of (cluster_line cluster start portion tag.now)) ≤ size room.old) }
+    ensures { (result ≡ at + size (line_of (cluster_line cluster start portion tag.now))) × (room.new ≡ put_at room.old at (line_of (cluster_line cluster start portion tag.now))) }
 {
-    let bytes = tag.bytes;
-    let n = wide(tag.len);
     let fields = [
         Field::byte(0x82),
         Field::byte(cluster),
@@ -45,5 +44,5 @@ pub fn put_cluster(
         Field::new(4, u64::from(portion)),
         Field::byte(tag.len),
     ];
-    hexroom::put_line(room, at, &fields, &bytes[..n])
+    hexroom::put_line(room, at, &fields, &tag.bytes[..usize::from(tag.len)])
 }

@@ -1,7 +1,7 @@
 -- The place of a refused text (docs/FORMATS.md, "The place"; request 2026-01). `text_place_is_first_bad`: a refusal by 10 to 14 names a field that is bad, and
 -- no field before it in the line is; the line is read after the records of the lines before it. `text_place_only_then`: the place is FF exactly for the other numbers.
 use Rattle.std.proofs.Math.Path.{◌≡◌}
-use Rattle.std.specs.Prelude.{true, not, ◌⊎◌, length, take, eqb}
+use Rattle.std.specs.Prelude.{true, not, ◌⊎◌, length, take, eqb, Ok, Err}
 use mathlib.Core.List.{List, [], ◌∷◌}
 use Rattle.std.proofs.Math.Logic.{inl, inr}
 use Prim.Native.Nat.{ℕ, suc, ◌+◌, ◌-◌, ◌≤◌, ◌<◌}
@@ -11,8 +11,8 @@ use Rattle.hexline.specs.Loops.{decide}
 use Rattle.hexline.specs.Digits.{between}
 use Rattle.hexline.specs.Lines.{Row, rows}
 use Rattle.site.specs.declared.Site.{Site}
-use Rattle.site.specs.declared.Verdict.{Verdict}
-use Rattle.site.specs.declared.Verdict.TheVariants.{Accepted, Refused}
+use Rattle.site.specs.Refusals.{Verdict, accepted}
+use Rattle.site.specs.Told.{refusal}
 use Rattle.site.specs.Records.{no_site}
 use Rattle.site.specs.Table.{due}
 use Rattle.site.specs.Places.{NamesFirstBad, FieldAt, fields_due, values_due, place_is_first_bad, line_field_at, place_only_then}
@@ -50,19 +50,19 @@ pub record FieldRefused (t : List ℕ) (m k p : ℕ) : Type 0 where
   pub field : FieldAt m p
 
 module _ (m k p : ℕ) where
-  onward_refused : (v : Verdict) (next : Reading) → (onward v next).verdict ≡ Refused m k p → (v ≡ Refused m k p) ⊎ (next.verdict ≡ Refused m k p)
-  onward_refused Accepted next e = inr e
-  onward_refused (Refused _ _ _) next e = inl e
+  onward_refused : (v : Verdict) (next : Reading) → (onward v next).verdict ≡ Err (refusal m k p) → (v ≡ Err (refusal m k p)) ⊎ (next.verdict ≡ Err (refusal m k p))
+  onward_refused (Ok _) next e = inr e
+  onward_refused (Err _) next e = inl e
 
   -- the lines rs from line j on, after the records s: line i behind the first is refused so, or a line is missing
   abbrev Refusal : ℕ → Site → List Row → Type 0
-  Refusal j s rs = ((m ≡ 2) × (p ≡ 255)) ⊎ ((i : ℕ) × (i < length rs) × (verdict_at (j + i) (entered_all j s (take i rs)) (get_or rs i no_row) ≡ Refused m k p))
+  Refusal j s rs = ((m ≡ 2) × (p ≡ 255)) ⊎ ((i : ℕ) × (i < length rs) × (verdict_at (j + i) (entered_all j s (take i rs)) (get_or rs i no_row) ≡ Err (refusal m k p)))
 
-  rows_refusal : (j : ℕ) (s : Site) (rs : List Row) → (read_rows j s rs).verdict ≡ Refused m k p → Refusal j s rs
+  rows_refusal : (j : ℕ) (s : Site) (rs : List Row) → (read_rows j s rs).verdict ≡ Err (refusal m k p) → Refusal j s rs
   unfolding read_rows
   rows_refusal j s [] e = elim (decide (eqb (due j s.cluster_count s.flow_count) 0)) [
-    | inl d ↦ let z : Accepted ≡ Refused m k p = rw d at e in absurd (let z' : ◌≡◌ {A = ℕ} 0 1 = cc in omega arith)
-    | inr d ↦ let z : Refused 2 j 255 ≡ Refused m k p = rw d at e in inl (cc, cc)
+    | inl d ↦ let z : accepted ≡ Err (refusal m k p) = rw d at e in absurd (let z' : ◌≡◌ {A = ℕ} 0 1 = cc in omega arith)
+    | inr d ↦ let z : Err (refusal 2 j 255) ≡ Err (refusal m k p) = rw d at e in inl (cc, cc)
   ]
   rows_refusal j s (r ∷ rs) e = elim (onward_refused (verdict_at j s r) (read_rows (j + 1) (entered j s r.chars) rs) e) [
     | inl q ↦ let z : j + 0 ≡ j = omega arith in inr (0, omega arith, rw z q)
@@ -72,7 +72,7 @@ module _ (m k p : ℕ) where
     ]
   ]
 
-module _ (t : List ℕ) (m k p : ℕ) (e : (read_text t).verdict ≡ Refused m k p) where
+module _ (t : List ℕ) (m k p : ℕ) (e : (read_text t).verdict ≡ Err (refusal m k p)) where
   pub text_place_is_first_bad : 10 ≤ m → FieldRefused t m k p
   unfolding read_text
   text_place_is_first_bad h = elim (rows_refusal m k p 1 no_site (rows t) e) [

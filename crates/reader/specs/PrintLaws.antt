@@ -1,19 +1,23 @@
 -- Laws of prints: tags that are the same have one print, where zeros stand behind their bytes; and what the reader's prints are at each line.
-use Rattle.std.specs.Prelude.{◌≡◌, true, not, List, ℕ, ◌+◌, ◌-◌, ◌≤◌, ◌<◌, eqb, ltb, length, get_or, set, replicate}
-use Rattle.std.proofs.Common.{sym, ap, ◌∙◌, true≢false, add-one, arith, ext_get_or}
+use Rattle.std.specs.Prelude.{◌≡◌, refl, Bool, true, not, List, [], ℕ, zero, suc, ◌+◌, ◌*◌, ◌-◌, ◌≤◌, ◌<◌, eqb, ltb, length, get_or, set, take, drop, replicate}
+use Rattle.std.specs.List.{list_all}
+use Rattle.std.specs.Simd.{first_chunks}
+use Rattle.std.specs.Int.{from_le_bytes, w32}
+use Rattle.std.proofs.Common.{sym, ap, ◌∙◌, true≢false, add-one, add-zero, arith, ext_get_or, drop-drop}
 use Rattle.std.proofs.Math.Logic.{inl, inr}
 use Rattle.std.proofs.Math.ListN.{length-set}
-use Rattle.std.proofs.lemmas.List.{length-replicate, get_or-replicate}
+use Rattle.std.proofs.lemmas.List.{length-replicate, get_or-replicate, get_or-take, get_or-drop, length-take-le}
+use Rattle.std.proofs.lemmas.List.Folds.{list_all_more}
 use Rattle.std.proofs.Math.Seq.{get_or-set_same, get_or-set_other}
 use borrow.Author.Tests.{ltb-true, ltb-false, eq-eqb, eqb-true, eqb-false}
 use Rattle.model.specs.CountingLaws.{and_both}
-use Rattle.hexline.specs.Loops.{decide, every, every_at, every_all, filled_behind, filled-length}
+use Rattle.hexline.specs.Loops.{decide, every, every_at, every_all, every_same, filled_behind, filled-length}
 use Rattle.hexline.specs.Digits.{byte_at}
 use Rattle.site.specs.declared.Tag.{Tag}
 use Rattle.site.specs.declared.Cluster.{Cluster}
 use Rattle.site.specs.declared.Flow.{Flow}
 use Rattle.site.specs.declared.Site.{Site}
-use Rattle.site.specs.Records.{no_site, absent, same_tag}
+use Rattle.site.specs.Records.{no_site, absent, same_tag, tag_taken}
 use Rattle.site.specs.Lines.{tag_at}
 use Rattle.reader.specs.Reading.{with_header, with_cluster, with_flow}
 use Rattle.reader.specs.Prints.{word_at, total, totals, print_of}
@@ -26,6 +30,37 @@ module _ (b : List ℕ) (n : ℕ) where
   pub totals_more : totals b n + total b (n + 1) ≡ totals b (n + 1)
   unfolding totals
   totals_more = rw (add-one n, totals)
+
+-- a word is made of the four bytes at its place
+chunk_at : (m k : ℕ) (xs : List ℕ) → k < m → get_or (first_chunks 4 m xs) k [] ≡ take 4 (drop (4 * k) xs)
+chunk_at zero k xs h = absurd (omega arith)
+chunk_at (suc m) zero xs h = refl
+chunk_at (suc m) (suc k) xs h = let z : 4 * suc k ≡ 4 + 4 * k = omega arith in chunk_at m k (drop 4 xs) (omega arith) ∙ rw (z, drop-drop (4 * k) 4 xs) refl
+
+part_at : (xs : List ℕ) (n i : ℕ) → i < 4 → get_or (take 4 (drop n xs)) i 0 ≡ get_or xs (n + i) 0
+part_at xs n i h = get_or-take 4 (drop n xs) i 0 h ∙ get_or-drop n xs i 0
+
+four_bytes : (b w : List ℕ) (n : ℕ) → ((i : ℕ) → i < 4 → get_or w i 0 ≡ get_or b (n + i) 0)
+    → from_le_bytes w32 w ≡ get_or b n 0 + 256 * get_or b (n + 1) 0 + 65536 * get_or b (n + 2) 0 + 16777216 * get_or b (n + 3) 0
+four_bytes b w n at =
+    let first : get_or w 0 0 ≡ get_or b n 0 = rw add-zero at (at 0 (omega arith)) in
+    rw (first, at 1 (omega arith), at 2 (omega arith), at 3 (omega arith)) (omega arith)
+
+pub word_of : (b : List ℕ) (ws : List (List ℕ)) (m k v : ℕ) → ws ≡ first_chunks 4 m b → k < m → v ≡ from_le_bytes w32 (get_or ws k []) → v ≡ word_at b k
+unfolding word_at
+word_of b ws m k v p h e = e ∙ ap (λ (all : List (List ℕ)). from_le_bytes w32 (get_or all k [])) p ∙ ap (from_le_bytes w32) (chunk_at m k b h) ∙ four_bytes b (take 4 (drop (4 * k) b)) (4 * k) (part_at b (4 * k))
+
+-- a test of every element before n, index by index or as a list
+every_taken : {A : Type 0} (p : A → Bool) (xs : List A) (d : A) (n : ℕ) → n ≤ length xs → every n (λ i. p (get_or xs i d)) ≡ list_all p (take n xs)
+unfolding every
+every_taken p xs d zero h = refl
+every_taken p xs d (suc n) h = rw (every_taken p xs d n (omega arith)) (sym (rw add-one at (list_all_more p xs n d (omega arith))))
+
+-- a tag is taken where one of the clusters before has it
+pub taken_before : (cs : List Cluster) (i : ℕ) (t : Tag) → i ≤ length cs → tag_taken cs i t ≡ tag_taken (take i cs) (length (take i cs)) t
+unfolding tag_taken
+taken_before cs i t h = rw (length-take-le i cs h)
+    (ap not (every_same _ _ i (λ j l. ap (λ (c : Cluster). not (same_tag c.tag t)) (sym (get_or-take i cs j absent l)))))
 
 -- zeros stand behind a tag's bytes
 pub record Padded (t : Tag) : Type 0 where
@@ -100,11 +135,11 @@ module _ (k : ℕ) (s : Site) (prints : List ℕ) (h : Printed k s prints) where
   }
 
   -- a tag whose print none of the first n has is the tag of none of them
-  pub prints_differ : (t : Tag) → Padded t → (v : ℕ) → v ≡ print_of t.bytes → (n : ℕ) → n + 2 ≤ k → n ≤ s.cluster_count
-      → every n (λ j. not (eqb (get_or prints j 0) v)) ≡ true → every n (λ j. not (same_tag (get_or s.clusters j absent).tag t)) ≡ true
-  prints_differ t zeros v is n early few e = every_all _ n (λ j l. elim (decide (same_tag (get_or s.clusters j absent).tag t)) [
+  pub prints_differ : (t : Tag) → Padded t → (v : ℕ) → v ≡ print_of t.bytes → (n : ℕ) → n + 2 ≤ k → n ≤ s.cluster_count → n ≤ 64
+      → list_all (λ q. not (eqb q v)) (take n prints) ≡ true → every n (λ j. not (same_tag (get_or s.clusters j absent).tag t)) ≡ true
+  prints_differ t zeros v is n early few within e = every_all _ n (λ j l. elim (decide (same_tag (get_or s.clusters j absent).tag t)) [
     | inr q ↦ ap not q
     | inl q ↦
         let one = h.print j (omega arith) (omega arith) ∙ same_print (get_or s.clusters j absent).tag t (h.padded j (omega arith) (omega arith)) zeros q ∙ sym is in
-        absurd (true≢false (sym (every_at _ n j e l) ∙ ap not (eq-eqb _ _ one)))
+        absurd (true≢false (sym (every_at _ n j (every_taken (λ q. not (eqb q v)) prints 0 n (omega (arith, h.room)) ∙ e) l) ∙ ap not (eq-eqb _ _ one)))
   ])

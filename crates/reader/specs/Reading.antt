@@ -1,13 +1,13 @@
 -- The reader of a text (docs/FORMATS.md, "Refusal numbers"): the first line that is refused decides, and in it the first test that applies. The records are all zero after
 -- a refusal.
-use Rattle.std.specs.Prelude.{cond, List, [], ◌∷◌, ℕ, ◌+◌, ◌-◌, set, eqb}
+use Rattle.std.specs.Prelude.{cond, List, [], ◌∷◌, ℕ, ◌+◌, ◌-◌, set, eqb, Result, Ok, Err}
 use Rattle.hexline.specs.Digits.{byte_at}
 use Rattle.hexline.specs.Lines.{Row, rows}
 use Rattle.site.specs.declared.Cluster.{Cluster}
 use Rattle.site.specs.declared.Flow.{Flow}
 use Rattle.site.specs.declared.Site.{Site}
-use Rattle.site.specs.declared.Verdict.{Verdict}
-use Rattle.site.specs.declared.Verdict.TheVariants.{Accepted, Refused}
+use Rattle.site.specs.Refusals.{Verdict}
+use Rattle.site.specs.Told.{Told, refusal}
 use Rattle.site.specs.Records.{no_site}
 use Rattle.site.specs.Lines.{cluster_of, flow_of}
 use Rattle.site.specs.Table.{due, by_kind, line_verdict}
@@ -35,15 +35,18 @@ entered k s l =
     (with_flow s (k - 2 - s.cluster_count) (flow_of l))
 
 abbrev pub accepted : Site → Reading
-accepted s = record { site = s; verdict = Accepted }
+accepted s = record { site = s; verdict = Ok tt }
+
+abbrev pub refused_by : Told → Reading
+refused_by t = record { site = no_site; verdict = Err t }
 
 abbrev pub refused : ℕ → ℕ → ℕ → Reading
-refused number k place = record { site = no_site; verdict = Refused number k place }
+refused number k place = refused_by (refusal number k place)
 
 -- what is read on where a verdict accepts
 abbrev pub onward : Verdict → Reading → Reading
-onward Accepted next = next
-onward (Refused number k place) next = refused number k place
+onward (Ok _) next = next
+onward (Err t) next = refused_by t
 
 -- the lines from line k on, after the records s: a bad line is refused, and a line that is missing is refused by 2
 unfoldable pub read_rows : ℕ → Site → List Row → Reading
@@ -52,3 +55,11 @@ read_rows k s (r ∷ rs) = onward (verdict_at k s r) (read_rows (k + 1) (entered
 
 unfoldable pub read_text : List ℕ → Reading
 read_text t = read_rows 1 no_site (rows t)
+
+-- the records alone, where they are taken
+abbrev pub records_if : Verdict → Site → Result Site Told
+records_if (Ok _) s = Ok s
+records_if (Err t) s = Err t
+
+abbrev pub records_of : Reading → Result Site Told
+records_of r = records_if r.verdict r.site

@@ -3,173 +3,118 @@
 #![tactic(auto)]
 
 mod prints;
+mod rows;
 
-ghost use Rattle.std.specs.Prelude.{◌≡◌};
-ghost use Rattle.site.specs.Records.{no_cluster, no_flow, no_site};
-ghost use Rattle.reader.specs.Reading.{accepted as taken_as, refused as refused_as, read_text};
+ghost use Rattle.std.specs.Prelude.{◌≡◌, OnOk};
+ghost use Rattle.reader.specs.Reading.{read_text, records_of};
+ghost use Rattle.site.specs.Records.{no_site};
 
-use model::wide;
-use prints::{first_alike, print_of};
-use site::{Cluster, Entry, Flow, NO_PLACE, Site, Tag, Verdict, due_at, line_entry};
-use tags::{same_tag, tag_of};
+use hexbytes::Line;
+use prints::{print_of, unlike};
+use rows::Rows;
+use site::{Cluster, Counts, Entry, Flow, MOST_DIGITS, Reason, Refusal, Site, Tag, entry_of_line};
+use tags::{is_taken, tag_of};
+
+const NO_CLUSTER: Cluster = Cluster {
+    parent: 0,
+    order: 0,
+    tag: Tag {
+        bytes: [0; 64],
+        len: 0,
+    },
+};
+
+const NO_FLOW: Flow = Flow {
+    source: 0,
+    sink: 0,
+    period: 0,
+    deadline: 0,
+};
+
+// Records that are all zero.
+pub const NO_SITE: Site = Site {
+    flows: [NO_FLOW; 128],
+    cluster_count: 0,
+    clusters: [NO_CLUSTER; 64],
+    flow_count: 0,
+};
 
 // A text's records, all zero after a refusal, and the verdict.
 #[derive(Drop)]
 pub struct Reading {
     pub site: Site,
-    pub verdict: Verdict,
+    pub verdict: Result<(), Refusal>,
 }
 
-// A cluster and a flow that are all zero.
-fn no_cluster() -> Cluster
-    ensures { result ≡ no_cluster }
+// Reads the records of a text into `site`, which is all zero, or gives the refusal of its first bad
+// line. So they lie in the caller's memory alone: a result that holds them would be a second copy.
+pub fn read_into(text: &[u8], site: &mut Site) -> Result<(), Refusal>
+    requires { site.old ≡ no_site }
+    ensures verdict { result ≡ (read_text text.now).verdict }
+    ensures records { OnOk result (site.new ≡ (read_text text.now).site) }
 {
-    Cluster {
-        parent: 0,
-        order: 0,
-        tag: Tag {
-            bytes: [0u8; 64],
-            len: 0,
-        },
-    }
-}
-
-fn no_flow() -> Flow
-    ensures { result ≡ no_flow }
-{
-    Flow {
-        source: 0,
-        sink: 0,
-        period: 0,
-        deadline: 0,
-    }
-}
-
-// The records of a refused text: all zero.
-fn no_site() -> Site
-    ensures { result ≡ no_site }
-{
-    Site {
-        flows: [no_flow(); 128],
-        cluster_count: 0,
-        clusters: [no_cluster(); 64],
-        flow_count: 0,
-    }
-}
-
-fn accepted(site: Site) -> Reading
-    ensures { result ≡ taken_as site }
-{
-    Reading {
-        site,
-        verdict: Verdict::Accepted,
-    }
-}
-
-fn refused(number: u8, line: usize, place: u16) -> Reading
-    ensures { result ≡ refused_as number line place }
-{
-    let site = no_site();
-    Reading {
-        site,
-        verdict: Verdict::Refused {
-            number,
-            line,
-            place,
-        },
-    }
-}
-
-// The records of a text, or the refusal of its first bad line with records that are all zero.
-pub fn read(text: &[u8]) -> Reading
-    ensures { result ≡ read_text text.now }
-{
-    let mut clusters = [no_cluster(); 64];
-    let mut flows = [no_flow(); 128];
-    let mut cluster_count: u8 = 0;
-    let mut flow_count: u8 = 0;
+    let mut counts = Counts {
+        clusters: 0,
+        flows: 0,
+    };
     let mut prints = [0u32; 64];
-    let mut at: usize = 0;
     let mut k: usize = 1;
-    while at < text.len() {
-        let end = hexline::line_end(text, at);
-        let line = &text[at..end];
-        let mut bytes = [0u8; 68];
-        let entry = line_entry(
-            line,
-            &mut bytes,
-            end < text.len(),
-            k,
-            cluster_count,
-            flow_count,
-        );
-        let next = k + 1;
-        let after = end + 1;
+    for row in (Rows { text }) {
+        let Some(line) = Line::decode(row.chars, row.ended, MOST_DIGITS) else {
+            return Err(Reason::Malformed.in_line(k));
+        };
+        let entry = entry_of_line(&line, k, counts)?;
         match entry {
-            Entry::Refused {
-                number,
-                line,
-                place,
-            } => return refused(number, line, place),
-            Entry::Header { clusters, flows } => {
-                cluster_count = clusters;
-                flow_count = flows;
-                k = next;
-                at = after;
-            }
+            Entry::Header(header) => counts = header,
             Entry::Cluster {
                 parent,
                 order,
                 place: _,
                 len,
             } => {
-                // The print has a tag of its own: of one for both the compiler would keep each
-                // word at hand while the tags before it are compared.
-                let read = tag_of(line, &bytes, len);
-                let spelled = read.bytes;
-                let print = print_of(&spelled);
-                let tag = tag_of(line, &bytes, len);
+                let tag = tag_of(&line, len);
+                let print = print_of(&tag.bytes);
                 let i = k - 2;
-                let mut j = first_alike(&prints, i, print);
-                while j < i {
-                    let earlier = clusters[j];
-                    if same_tag(earlier.tag, tag) {
-                        return refused(6, k, NO_PLACE);
-                    }
-                    j += 1;
+                let earlier = &site.clusters[..i];
+                if !unlike(&prints[..i], print) && is_taken(earlier, &tag) {
+                    return Err(Reason::RepeatedTag.in_line(k));
                 }
-                let cluster = Cluster { parent, order, tag };
-                clusters[i] = cluster;
+                site.clusters[i] = Cluster { parent, order, tag };
                 prints[i] = print;
-                k = next;
-                at = after;
             }
-            Entry::Flow {
-                source,
-                sink,
-                period,
-                deadline,
-            } => {
-                let flow = Flow {
-                    source: source as u16,
-                    sink: sink as u16,
-                    period,
-                    deadline,
-                };
-                let j = k - 2 - wide(cluster_count);
-                flows[j] = flow;
-                k = next;
-                at = after;
-            }
+            Entry::Flow(flow) => site.flows[k - 2 - usize::from(counts.clusters)] = flow,
         }
+        k += 1;
     }
-    if due_at(k, cluster_count, flow_count) == 0 {
-        return accepted(Site {
-            flows,
-            cluster_count,
-            clusters,
-            flow_count,
-        });
+    if counts.due_at(k).is_some() {
+        return Err(Reason::WrongKind.in_line(k));
     }
-    refused(2, k, NO_PLACE)
+    site.cluster_count = counts.clusters;
+    site.flow_count = counts.flows;
+    Ok(())
+}
+
+// The records of a text, or the refusal of its first bad line.
+pub fn records(text: &[u8]) -> Result<Site, Refusal>
+    ensures { result ≡ records_of (read_text text.now) }
+{
+    let mut site = NO_SITE;
+    read_into(text, &mut site)?;
+    Ok(site)
+}
+
+// The records of a text, or the refusal of its first bad line with records that are all zero.
+pub fn read(text: &[u8]) -> Reading
+    ensures { result ≡ read_text text.now }
+{
+    match records(text) {
+        Ok(site) => Reading {
+            site,
+            verdict: Ok(()),
+        },
+        Err(refusal) => Reading {
+            site: NO_SITE,
+            verdict: Err(refusal),
+        },
+    }
 }

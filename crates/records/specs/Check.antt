@@ -4,8 +4,7 @@ use Rattle.std.specs.Prelude.{List, [], ◌∷◌, ℕ, zero, suc, ◌+◌, get_
 use Rattle.site.specs.declared.Cluster.{Cluster}
 use Rattle.site.specs.declared.Flow.{Flow}
 use Rattle.site.specs.declared.Site.{Site}
-use Rattle.site.specs.declared.Verdict.{Verdict}
-use Rattle.site.specs.declared.Verdict.TheVariants.{Accepted}
+use Rattle.site.specs.Refusals.{Verdict, accepted}
 use Rattle.site.specs.Records.{absent, no_flow, wrong_parent, tag_taken}
 use Rattle.site.specs.Fields.{header_verdict, cluster_verdict, flow_verdict}
 use Rattle.site.specs.Table.{refused_if, or_else, first_of}
@@ -22,7 +21,7 @@ flow_checked n fs j = flow_verdict (2 + n + j) n (get_or fs j no_flow)
 
 -- the first of m verdicts from verdict i on that refuses
 unfoldable pub each_of : (ℕ → Verdict) → ℕ → ℕ → Verdict
-each_of verdict zero i = Accepted
+each_of verdict zero i = accepted
 each_of verdict (suc m) i = or_else (verdict i) (each_of verdict m (i + 1))
 
 unfoldable pub clusters_verdict : List Cluster → ℕ → Verdict

@@ -1,8 +1,9 @@
 -- The check of records refuses by 10 to 14, 5 or 6 and by no other number (docs/FORMATS.md, "Records handed in").
 use Rattle.std.specs.Prelude.{◌≡◌, refl, true, ℕ, ◌+◌, get_or}
 use Rattle.site.specs.declared.Site.{Site}
-use Rattle.site.specs.declared.Verdict.{Verdict}
-use Rattle.site.specs.declared.Verdict.TheVariants.{Accepted, Refused}
+use Rattle.std.specs.Prelude.{Ok, Err}
+use Rattle.site.specs.Refusals.{Verdict}
+use Rattle.site.specs.Told.{refusal}
 use Rattle.site.specs.Records.{absent, no_flow}
 use Rattle.site.specs.Fields.{header_verdict, cluster_verdict, flow_verdict}
 use Rattle.site.specs.Table.{record_number}
@@ -11,12 +12,12 @@ use Rattle.records.specs.Check.{checked}
 use Rattle.records.specs.CheckLaws.{cluster_has, check_has}
 
 abbrev pub ByRecords : Verdict → Type 0
-ByRecords Accepted = Unit {0}
-ByRecords (Refused number line place) = record_number number ≡ true
+ByRecords (Ok _) = Unit {0}
+ByRecords (Err (refusal number line place)) = record_number number ≡ true
 
 fields_by_records : (v : Verdict) → ByField v → ByRecords v
-fields_by_records Accepted h = tt
-fields_by_records (Refused m k p) h = field_record m p h
+fields_by_records (Ok _) h = tt
+fields_by_records (Err (refusal m k p)) h = field_record m p h
 
 pub check_by_records : (s : Site) → ByRecords (checked s)
 check_by_records s =

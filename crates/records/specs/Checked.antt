@@ -11,8 +11,7 @@ use Rattle.site.specs.declared.Tag.{Tag}
 use Rattle.site.specs.declared.Cluster.{Cluster}
 use Rattle.site.specs.declared.Flow.{Flow}
 use Rattle.site.specs.declared.Site.{Site}
-use Rattle.site.specs.declared.Verdict.{Verdict}
-use Rattle.site.specs.declared.Verdict.TheVariants.{Accepted}
+use Rattle.site.specs.Refusals.{Verdict, accepted}
 use Rattle.site.specs.Records.{absent, no_flow, wrong_parent, tag_taken}
 use Rattle.site.specs.Fields.{outside, tag_byte, header_fields, cluster_fields, flow_fields, header_values, cluster_values, flow_values, behind, header_verdict, cluster_verdict, flow_verdict}
 use Rattle.site.specs.FieldLaws.{inside, front_is, behind_at, AllGood, all_good, header_counts}
@@ -23,7 +22,7 @@ use Rattle.records.specs.CheckLaws.{both_accept, check_has}
 
 -- ---- the check, record by record
 
-none_bad : (verdict : ℕ → Verdict) (m i : ℕ) → each_of verdict m i ≡ Accepted → (x : ℕ) → i ≤ x → x < i + m → verdict x ≡ Accepted
+none_bad : (verdict : ℕ → Verdict) (m i : ℕ) → each_of verdict m i ≡ accepted → (x : ℕ) → i ≤ x → x < i + m → verdict x ≡ accepted
 unfolding each_of
 none_bad verdict zero i e x a b = absurd (omega arith)
 none_bad verdict (suc m) i e x a b =
@@ -35,11 +34,11 @@ none_bad verdict (suc m) i e x a b =
 
 -- no record of a site is refused
 pub record Unrefused (s : Site) : Type 0 where
-  pub header : header_verdict 1 1 s.cluster_count s.flow_count ≡ Accepted
-  pub clusters : (i : ℕ) → i < s.cluster_count → cluster_checked s.clusters i ≡ Accepted
-  pub flows : (j : ℕ) → j < s.flow_count → flow_checked s.cluster_count s.flows j ≡ Accepted
+  pub header : header_verdict 1 1 s.cluster_count s.flow_count ≡ accepted
+  pub clusters : (i : ℕ) → i < s.cluster_count → cluster_checked s.clusters i ≡ accepted
+  pub flows : (j : ℕ) → j < s.flow_count → flow_checked s.cluster_count s.flows j ≡ accepted
 
-pub checked_unrefused : (s : Site) → checked s ≡ Accepted → Unrefused s
+pub checked_unrefused : (s : Site) → checked s ≡ accepted → Unrefused s
 unfolding checked clusters_verdict flows_verdict
 checked_unrefused s e =
     let n : ℕ = s.cluster_count in let f : ℕ = s.flow_count in
@@ -51,8 +50,8 @@ checked_unrefused s e =
       flows = λ j l. none_bad (flow_checked n s.flows) f 0 both.1 j (omega arith) (omega arith);
     }
 
-pub unrefused_checked : (s : Site) → Unrefused s → checked s ≡ Accepted
-unrefused_checked s h = check_has (λ v. v ≡ Accepted) refl s h.header h.clusters h.flows
+pub unrefused_checked : (s : Site) → Unrefused s → checked s ≡ accepted
+unrefused_checked s h = check_has (λ v. v ≡ accepted) refl s h.header h.clusters h.flows
 
 -- ---- what the verdicts leave, whatever the line
 
@@ -61,7 +60,7 @@ pub record HeaderIn (n f : ℕ) : Type 0 where
   pub clusters : n ≤ 64
   pub flows : f ≤ 128
 
-pub header_in_lem : (k v n f : ℕ) → header_verdict k v n f ≡ Accepted → (v ≡ 1) × HeaderIn n f
+pub header_in_lem : (k v n f : ℕ) → header_verdict k v n f ≡ accepted → (v ≡ 1) × HeaderIn n f
 unfolding header_verdict
 header_in_lem k v n f e =
     let version = (all_good k 0 header_fields (header_values v n f) e).1.0 in
@@ -88,7 +87,7 @@ tag_byte_good zero vs h i l = absurd (omega arith)
 tag_byte_good (suc n) vs h zero l = rw (← front_is vs) h.0
 tag_byte_good (suc n) vs h (suc i) l = rw (← behind_at vs i) (tag_byte_good n (behind vs) h.1 i (omega arith))
 
-pub cluster_in : (k : ℕ) (c : Cluster) → cluster_verdict k c ≡ Accepted → ClusterIn c
+pub cluster_in : (k : ℕ) (c : Cluster) → cluster_verdict k c ≡ accepted → ClusterIn c
 unfolding cluster_verdict
 cluster_in k c e =
     let t : Tag = c.tag in
@@ -111,7 +110,7 @@ pub record FlowIn (n : ℕ) (f : Flow) : Type 0 where
   pub period : f.period ≤ 1000000000
   pub deadline : f.deadline ≤ 1000000000
 
-pub flow_in : (k n : ℕ) (f : Flow) → flow_verdict k n f ≡ Accepted → FlowIn n f
+pub flow_in : (k n : ℕ) (f : Flow) → flow_verdict k n f ≡ accepted → FlowIn n f
 unfolding flow_verdict
 flow_in k n f e =
     let good = (all_good k 0 (flow_fields n) (flow_values f) e).1 in
@@ -137,14 +136,14 @@ module _ (s : Site) (h : Unrefused s) where
     abbrev c : Cluster
     c = get_or s.clusters i absent
 
-    pub cluster_tests : (cluster_verdict (2 + i) c ≡ Accepted) × (wrong_parent i c.parent ≡ false) × (tag_taken s.clusters i c.tag ≡ false)
+    pub cluster_tests : (cluster_verdict (2 + i) c ≡ accepted) × (wrong_parent i c.parent ≡ false) × (tag_taken s.clusters i c.tag ≡ false)
     unfolding cluster_checked
     cluster_tests =
         let parent = refused_if 5 (2 + i) (wrong_parent i c.parent) in
         let tag = refused_if 6 (2 + i) (tag_taken s.clusters i c.tag) in
-        let fields = both_accept (cluster_verdict (2 + i) c) (or_else parent (or_else tag Accepted)) (h.clusters i l) in
-        let tests = both_accept parent (or_else tag Accepted) fields.1 in
-        let last = both_accept tag Accepted tests.1 in
+        let fields = both_accept (cluster_verdict (2 + i) c) (or_else parent (or_else tag accepted)) (h.clusters i l) in
+        let tests = both_accept parent (or_else tag accepted) fields.1 in
+        let last = both_accept tag accepted tests.1 in
         (fields.0, test_accepts 5 (2 + i) (wrong_parent i c.parent) tests.0, test_accepts 6 (2 + i) (tag_taken s.clusters i c.tag) last.0)
 
     pub site_cluster_in : ClusterIn c

@@ -7,8 +7,9 @@ use Rattle.hexline.specs.DigitLaws.{between_low}
 use Rattle.site.specs.declared.Cluster.{Cluster}
 use Rattle.site.specs.declared.Flow.{Flow}
 use Rattle.site.specs.declared.Site.{Site}
-use Rattle.site.specs.declared.Verdict.{Verdict}
-use Rattle.site.specs.declared.Verdict.TheVariants.{Accepted, Refused}
+use Rattle.std.specs.Prelude.{Err}
+use Rattle.site.specs.Refusals.{Verdict, accepted}
+use Rattle.site.specs.Told.{refusal}
 use Rattle.site.specs.Records.{absent, no_flow}
 use Rattle.site.specs.Fields.{header_fields, cluster_fields, flow_fields, header_values, cluster_values, flow_values, header_verdict, cluster_verdict, flow_verdict}
 use Rattle.site.specs.Places.{NamesFirstBad, names_first_bad, header_place, cluster_place, flow_place, only_then}
@@ -37,25 +38,25 @@ pub data NamesField (s : Site) (m k p : ℕ) : Type 0 where
 module _ (s : Site) where
   -- what a verdict says of the place, if it refuses
   abbrev Named : Verdict → Type 0
-  Named v = (m k p : ℕ) → v ≡ Refused m k p → 10 ≤ m → NamesField s m k p
+  Named v = (m k p : ℕ) → v ≡ Err (refusal m k p) → 10 ≤ m → NamesField s m k p
 
   abbrev OnlyThen : Verdict → Type 0
-  OnlyThen v = (m k p : ℕ) → v ≡ Refused m k p → eqb p 255 ≡ not (between 10 14 m)
+  OnlyThen v = (m k p : ℕ) → v ≡ Err (refusal m k p) → eqb p 255 ≡ not (between 10 14 m)
 
-  accepted_named : Named Accepted
+  accepted_named : Named accepted
   accepted_named m k p e = absurd (let z : ◌≡◌ {A = ℕ} 0 1 = cc in omega arith)
 
-  accepted_only_then : OnlyThen Accepted
+  accepted_only_then : OnlyThen accepted
   accepted_only_then m k p e = absurd (let z : ◌≡◌ {A = ℕ} 0 1 = cc in omega arith)
 
   -- 5 and 6 name no field
-  test_named : (x a : ℕ) → x < 10 → Named (Refused x a 255)
+  test_named : (x a : ℕ) → x < 10 → Named (Err (refusal x a 255))
   test_named x a small m k p e h = absurd (let by : x ≡ m = cc in omega arith)
 
-  test_only_then : (x a : ℕ) → x < 10 → OnlyThen (Refused x a 255)
+  test_only_then : (x a : ℕ) → x < 10 → OnlyThen (Err (refusal x a 255))
   test_only_then x a small m k p e = let by : x ≡ m = cc in let at : p ≡ 255 = cc in rw (eq-eqb p 255 at, between_low 10 14 m (omega arith))
 
-  pub records_place_is_first_bad : (m k p : ℕ) → checked s ≡ Refused m k p → 10 ≤ m → NamesField s m k p
+  pub records_place_is_first_bad : (m k p : ℕ) → checked s ≡ Err (refusal m k p) → 10 ≤ m → NamesField s m k p
   unfolding header_verdict cluster_verdict flow_verdict
   records_place_is_first_bad =
       check_has Named accepted_named s
@@ -65,7 +66,7 @@ module _ (s : Site) where
       (test_named 5 (2 + i) (omega arith)) (test_named 6 (2 + i) (omega arith)))
       (λ j l m k p e h. let named = names_first_bad (2 + n s + j) (flow_fields (n s)) (flow_values (flow s j)) m k p e in of_flow j l named.0 named.1)
 
-  pub records_place_only_then : (m k p : ℕ) → checked s ≡ Refused m k p → eqb p 255 ≡ not (between 10 14 m)
+  pub records_place_only_then : (m k p : ℕ) → checked s ≡ Err (refusal m k p) → eqb p 255 ≡ not (between 10 14 m)
   records_place_only_then =
       check_has OnlyThen accepted_only_then s
       (only_then (header_verdict 1 1 (n s) (f s)) (header_place 1 1 (n s) (f s)))

@@ -1,122 +1,77 @@
 // The check of records that a caller hands in (docs/FORMATS.md, "Records handed in").
 #![tactic(auto)]
 
-ghost use Rattle.std.specs.Prelude.{◌≡◌, ◌≤◌};
+mod accepted;
+
+ghost use Rattle.std.specs.Prelude.{◌≡◌, ◌≤◌, length};
 ghost use Rattle.site.specs.Fields.{cluster_verdict, tag_verdict};
 ghost use Rattle.records.specs.Check.{clusters_verdict, flows_verdict, checked};
 
-use model::wide;
+pub use accepted::Accepted;
 use site::{
-    Cluster, Flow, NO_PLACE, Site, Tag, Verdict, bad_parent, flow_verdict, header_verdict,
+    Cluster, Flow, Reason, Refusal, Site, Tag, bad_parent, flow_verdict, header_verdict,
     untagged_verdict,
 };
-use tags::same_tag;
+use tags::is_taken;
 
 // The verdict on the tag bytes of a cluster in line k: the first that is not from 21 to 7E is refused
 // at its place, behind the four bytes before the tag.
-fn tag_verdict(k: usize, tag: Tag) -> Verdict
-    requires { tag.len ≤ 64 }
-    ensures { result ≡ tag_verdict k tag }
+fn tag_verdict(k: usize, tag: &Tag) -> Result<(), Refusal>
+    requires { tag.now.len ≤ 64 }
+    ensures { result ≡ tag_verdict k tag.now }
 {
-    let len = tag.len;
-    let bytes = tag.bytes;
-    let mut i: u8 = 0;
-    while i < len {
-        let b = bytes[wide(i)];
+    for i in 0..tag.len {
+        let b = tag.bytes[usize::from(i)];
         if (b < 33) | (b > 126) {
-            return Verdict::Refused {
-                number: 12,
-                line: k,
-                place: 4 + i as u16,
-            };
+            return Err(Reason::BadTag.in_field(k, 4 + i));
         }
-        i += 1;
     }
-    Verdict::Accepted
+    Ok(())
 }
 
 // The verdict on the fields of a cluster in line k.
-fn cluster_verdict(k: usize, c: Cluster) -> Verdict
-    ensures { result ≡ cluster_verdict k c }
+fn cluster_verdict(k: usize, c: &Cluster) -> Result<(), Refusal>
+    ensures { result ≡ cluster_verdict k c.now }
 {
-    let tag = c.tag;
-    let before = untagged_verdict(k, c.order, tag.len);
-    let Verdict::Accepted = before else {
-        return before;
-    };
-    tag_verdict(k, tag)
+    untagged_verdict(k, c.order, c.tag.len)?;
+    tag_verdict(k, &c.tag)
 }
 
-// The first of the first n clusters that is refused, by a field, by 5 or by 6.
-fn check_clusters(clusters: [Cluster; 64], n: usize) -> Verdict
-    requires { n ≤ 64 }
-    ensures { result ≡ clusters_verdict clusters n }
+// The first of the clusters that is refused, by a field, by 5 or by 6.
+fn check_clusters(clusters: &[Cluster]) -> Result<(), Refusal>
+    requires { length clusters.now ≤ 64 }
+    ensures { result ≡ clusters_verdict clusters.now (length clusters.now) }
 {
-    let mut i: usize = 0;
-    while i < n {
-        let cluster = clusters[i];
-        let fields = cluster_verdict(2 + i, cluster);
-        let Verdict::Accepted = fields else {
-            return fields;
-        };
+    for (i, cluster) in clusters.iter().enumerate() {
+        cluster_verdict(2 + i, cluster)?;
         if bad_parent(i, cluster.parent) {
-            return Verdict::Refused {
-                number: 5,
-                line: 2 + i,
-                place: NO_PLACE,
-            };
+            return Err(Reason::WrongParent.in_line(2 + i));
         }
-        let mut j: usize = 0;
-        while j < i {
-            let earlier = clusters[j];
-            if same_tag(earlier.tag, cluster.tag) {
-                return Verdict::Refused {
-                    number: 6,
-                    line: 2 + i,
-                    place: NO_PLACE,
-                };
-            }
-            j += 1;
+        if is_taken(&clusters[..i], &cluster.tag) {
+            return Err(Reason::RepeatedTag.in_line(2 + i));
         }
-        i += 1;
     }
-    Verdict::Accepted
+    Ok(())
 }
 
-// The first of the first f flows that is refused by a field, between so many clusters.
-fn check_flows(flows: [Flow; 128], f: usize, clusters: u8) -> Verdict
-    requires { f ≤ 128 }
-    ensures { result ≡ flows_verdict clusters flows f }
+// The first of the flows that is refused by a field, between so many clusters.
+fn check_flows(flows: &[Flow], clusters: u8) -> Result<(), Refusal>
+    requires { length flows.now ≤ 128 }
+    ensures { result ≡ flows_verdict clusters flows.now (length flows.now) }
 {
-    let first = 2 + wide(clusters);
-    let mut j: usize = 0;
-    while j < f {
-        let flow = flows[j];
-        let fields = flow_verdict(first + j, clusters, flow);
-        let Verdict::Accepted = fields else {
-            return fields;
-        };
-        j += 1;
+    let first = 2 + usize::from(clusters);
+    for (j, flow) in flows.iter().enumerate() {
+        flow_verdict(first + j, clusters, *flow)?;
     }
-    Verdict::Accepted
+    Ok(())
 }
 
 // The verdict on records: 10 to 14, 5 or 6 with the line that the record would have, and a field's
 // place in that line. What stands behind the counts and tag lengths is not looked at.
-pub fn check(site: Site) -> Verdict
-    ensures { result ≡ checked site }
+pub fn check(site: &Site) -> Result<(), Refusal>
+    ensures { result ≡ checked site.now }
 {
-    let n = site.cluster_count;
-    let f = site.flow_count;
-    let header = header_verdict(1, 1, n, f);
-    let Verdict::Accepted = header else {
-        return header;
-    };
-    let clusters = site.clusters;
-    let first = check_clusters(clusters, wide(n));
-    let Verdict::Accepted = first else {
-        return first;
-    };
-    let flows = site.flows;
-    check_flows(flows, wide(f), n)
+    header_verdict(1, 1, site.cluster_count, site.flow_count)?;
+    check_clusters(site.counted_clusters())?;
+    check_flows(site.counted_flows(), site.cluster_count)
 }

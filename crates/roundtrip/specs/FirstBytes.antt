@@ -2,7 +2,7 @@
 -- The lines still due keep a budget: 137 bytes for a cluster, 23 for a flow, and 137 more for the line behind them. A line that ends before the cut is the same
 -- in both texts, and if it is taken it was due and costs no more than its kind does. A line in which the cut falls has more than 136 characters in both texts,
 -- and both are refused by 1. Before the header is read its limits stand for the counts: 9 + 64 x 137 + 128 x 23 = 11,721.
-use Rattle.std.specs.Prelude.{◌≡◌, refl, true, List, [], ◌∷◌, ℕ, zero, suc, ◌+◌, ◌-◌, ◌*◌, ◌/◌, ◌≤◌, ◌<◌, min, length, take, drop, ltb, eqb}
+use Rattle.std.specs.Prelude.{◌≡◌, refl, true, List, [], ◌∷◌, ℕ, zero, suc, ◌+◌, ◌-◌, ◌*◌, ◌/◌, ◌≤◌, ◌<◌, min, length, take, drop, ltb, eqb, Ok, Err}
 use Rattle.std.proofs.Common.{sym, ap, ◌∙◌, inl, inr, arith, take_all, take-take, take-add, drop_at, length-take-le, ltb-true, ltb-false, lt-ltb, ne_eqb}
 use Rattle.std.proofs.Math.Seq.{take-nil}
 use Rattle.hexline.specs.Loops.{decide}
@@ -12,8 +12,8 @@ use Rattle.hexline.specs.LineLaws.{line_within, rows_first}
 use Rattle.site.specs.declared.Site.{Site}
 use Rattle.site.specs.Records.{no_site}
 use Rattle.site.specs.Lines.{cluster_of, flow_of}
-use Rattle.site.specs.declared.Verdict.{Verdict}
-use Rattle.site.specs.declared.Verdict.TheVariants.{Accepted, Refused}
+use Rattle.site.specs.Refusals.{Verdict, accepted}
+use Rattle.site.specs.Told.{refusal}
 use Rattle.site.specs.Table.{due, line_verdict}
 use Rattle.reader.specs.Reading.{with_header, with_cluster, with_flow, verdict_at, entered, refused, read_rows, read_text}
 use Rattle.reader.specs.ReadLaws.{rows_taken, rows_refused}
@@ -57,14 +57,14 @@ long_refused k s t l =
 
 -- two texts that begin with one line are read alike if what follows it is, where it is taken
 same_behind : (k : ℕ) (s : Site) (r : Row) (rs us : List Row)
-    → (verdict_at k s r ≡ Accepted → read_rows (k + 1) (entered k s r.chars) rs ≡ read_rows (k + 1) (entered k s r.chars) us)
+    → (verdict_at k s r ≡ accepted → read_rows (k + 1) (entered k s r.chars) rs ≡ read_rows (k + 1) (entered k s r.chars) us)
     → (v : Verdict) → verdict_at k s r ≡ v → read_rows k s (r ∷ rs) ≡ read_rows k s (r ∷ us)
-same_behind k s r rs us same Accepted e = rw (rows_taken k s r rs e, rows_taken k s r us e) (same e)
-same_behind k s r rs us same (Refused m a p) e = rw (rows_refused k s r rs m a p e, rows_refused k s r us m a p e)
+same_behind k s r rs us same (Ok _) e = rw (rows_taken k s r rs e, rows_taken k s r us e) (same e)
+same_behind k s r rs us same (Err (refusal m a p)) e = rw (rows_refused k s r rs m a p e, rows_refused k s r us m a p e)
 
 -- a cut at m changes nothing if it changes nothing of what follows a line that is taken
 cut_line : (k : ℕ) (s : Site) (t : List ℕ) (m : ℕ) → 136 < m
-    → ((r : Row) (rest : List ℕ) (left : ℕ) → m ≡ left + (length r.chars + 1) → verdict_at k s r ≡ Accepted
+    → ((r : Row) (rest : List ℕ) (left : ℕ) → m ≡ left + (length r.chars + 1) → verdict_at k s r ≡ accepted
     → read_rows (k + 1) (entered k s r.chars) (rows (take left rest)) ≡ read_rows (k + 1) (entered k s r.chars) (rows rest))
     → read_rows k s (rows (take m t)) ≡ read_rows k s (rows t)
 cut_line k s t m far next = elim (decide (ltb m (length t))) [

@@ -10,7 +10,7 @@ use Rattle.hexline.specs.Lines.{Row, onto, rows}
 use Rattle.hexline.specs.LineLaws.{AllFalse, none_of, WellFormed, well_formed}
 use Rattle.hexroom.specs.RoundTrip.{fields_at, total, fields_again, bytes-length, bytes_at, number_one, encode_decode}
 use Rattle.site.specs.declared.Cluster.{Cluster}
-use Rattle.site.specs.declared.Verdict.TheVariants.{Accepted}
+use Rattle.site.specs.Refusals.{accepted}
 use Rattle.site.specs.Records.{wrong_parent, tag_taken}
 use Rattle.site.specs.Fields.{header_verdict, cluster_verdict, flow_verdict}
 use Rattle.site.specs.Lines.{size, tag_at, cluster_of, flow_of}
@@ -89,7 +89,7 @@ cluster_again l kind short e =
 
 -- ---- what a line that is taken says of itself
 
-module _ (k n f : ℕ) (cs : List Cluster) (r : Row) (z : line_verdict k n f cs r ≡ Accepted) where
+module _ (k n f : ℕ) (cs : List Cluster) (r : Row) (z : line_verdict k n f cs r ≡ accepted) where
   abbrev d : ℕ
   d = due k n f
 
@@ -120,15 +120,15 @@ module _ (k n f : ℕ) (cs : List Cluster) (r : Row) (z : line_verdict k n f cs 
   pub line_again : (bs : List ℕ) (rest : List Row) → bs ≡ bytes_of l → joined (r ∷ rest) ≡ line_of bs ++ joined rest
   line_again = row_again 136 r taken_well
 
-  pub taken_header : d ≡ 1 → (byte_at l 0 ≡ 1) × (header_verdict k (byte_at l 1) (byte_at l 2) (byte_at l 3) ≡ Accepted)
+  pub taken_header : d ≡ 1 → (byte_at l 0 ≡ 1) × (header_verdict k (byte_at l 1) (byte_at l 2) (byte_at l 3) ≡ accepted)
   unfolding fields_verdict
   taken_header is = (taken_kind ∙ is, rw is at passed.fields)
 
   pub taken_cluster : d ≡ 2
-      → (byte_at l 0 ≡ 2) × (cluster_verdict k (cluster_of l) ≡ Accepted) × (wrong_parent (k - 2) (cluster_of l).parent ≡ false) × (tag_taken cs (k - 2) (cluster_of l).tag ≡ false)
+      → (byte_at l 0 ≡ 2) × (cluster_verdict k (cluster_of l) ≡ accepted) × (wrong_parent (k - 2) (cluster_of l).parent ≡ false) × (tag_taken cs (k - 2) (cluster_of l).tag ≡ false)
   unfolding fields_verdict misplaced repeated
   taken_cluster is = (taken_kind ∙ is, rw is at passed.fields, rw is at passed.below, rw is at passed.alone)
 
-  pub taken_flow : d ≡ 3 → (byte_at l 0 ≡ 3) × (flow_verdict k n (flow_of l) ≡ Accepted)
+  pub taken_flow : d ≡ 3 → (byte_at l 0 ≡ 3) × (flow_verdict k n (flow_of l) ≡ accepted)
   unfolding fields_verdict
   taken_flow is = (taken_kind ∙ is, rw is at passed.fields)

@@ -12,7 +12,7 @@ use Rattle.hexroom.specs.Room.{hexes-length}
 use Rattle.hexroom.specs.RoundTrip.{Fit, fields_at, total, fields_back, tail_back, number_one, written_well}
 use Rattle.site.specs.declared.Cluster.{Cluster}
 use Rattle.site.specs.declared.Flow.{Flow}
-use Rattle.site.specs.declared.Verdict.TheVariants.{Accepted}
+use Rattle.site.specs.Refusals.{accepted}
 use Rattle.site.specs.Records.{wrong_parent, tag_taken}
 use Rattle.site.specs.Fields.{header_values, flow_values, header_verdict, cluster_verdict, flow_verdict}
 use Rattle.site.specs.Lines.{size, tag_at, cluster_of, flow_of}
@@ -42,7 +42,7 @@ flow_size f = refl
 -- a line of the kind d that is due passes the tests 1, 2 and 3: it is taken if its fields are good and it passes 5 and 6
 line_taken : (d k n f : ℕ) (cs : List Cluster) (bs : List ℕ) → let l : List ℕ = hexes bs in
     due k n f ≡ d → (d ≡ 0 → ⊥) → byte_at l 0 ≡ d → 0 < length bs → length bs ≤ 68 → length bs ≡ by_kind d 4 (4 + byte_at l 3) 11
-    → fields_verdict d k n l ≡ Accepted → misplaced d k l ≡ false → repeated d k cs l ≡ false → line_verdict k n f cs (row_of bs) ≡ Accepted
+    → fields_verdict d k n l ≡ accepted → misplaced d k l ≡ false → repeated d k cs l ≡ false → line_verdict k n f cs (row_of bs) ≡ accepted
 unfolding wrong_kind wrong_length size
 line_taken d k n f cs bs is z kind some few long good t₅ t₆ =
     let l : List ℕ = hexes bs in
@@ -70,7 +70,7 @@ module _ (n f : ℕ) (h : HeaderIn n f) where
   unfolding header_bytes fields_at
   header_fields_lem = simp (append-nil, number_one) at (fields_back [] header_widths (header_values 1 n f) [] header_fits)
 
-  pub header_taken : (k n₀ f₀ : ℕ) (cs : List Cluster) → due k n₀ f₀ ≡ 1 → header_verdict k 1 n f ≡ Accepted → line_verdict k n₀ f₀ cs (row_of (header_bytes n f)) ≡ Accepted
+  pub header_taken : (k n₀ f₀ : ℕ) (cs : List Cluster) → due k n₀ f₀ ≡ 1 → header_verdict k 1 n f ≡ accepted → line_verdict k n₀ f₀ cs (row_of (header_bytes n f)) ≡ accepted
   unfolding fields_verdict misplaced repeated
   header_taken k n₀ f₀ cs d r =
       let e = header_fields_lem in
@@ -111,8 +111,8 @@ module _ (c : Cluster) (h : ClusterIn c) (byte : c.parent < 256) where
       rw (e₁, e₂, e₃, filled-same _ _ (replicate 64 0) c.tag.len tag_byte_lem)
 
   pub cluster_taken : (k n f : ℕ) (cs : List Cluster) → due k n f ≡ 2
-      → cluster_verdict k c ≡ Accepted → wrong_parent (k - 2) c.parent ≡ false → tag_taken cs (k - 2) (kept_tag c.tag) ≡ false
-      → line_verdict k n f cs (row_of (cluster_bytes c)) ≡ Accepted
+      → cluster_verdict k c ≡ accepted → wrong_parent (k - 2) c.parent ≡ false → tag_taken cs (k - 2) (kept_tag c.tag) ≡ false
+      → line_verdict k n f cs (row_of (cluster_bytes c)) ≡ accepted
   unfolding fields_verdict misplaced repeated kept_cluster
   cluster_taken k n f cs d good t₅ t₆ =
       let e = cluster_fields_lem in
@@ -142,7 +142,7 @@ module _ (n : ℕ) (f : Flow) (h : FlowIn n f) (few : n ≤ 64) where
       let e₃ : number_at flow_line 3 4 ≡ f.period = cc in let e₄ : number_at flow_line 7 4 ≡ f.deadline = cc in
       rw (e₁, e₂, e₃, e₄)
 
-  pub flow_taken : (k w : ℕ) (cs : List Cluster) → due k n w ≡ 3 → flow_verdict k n f ≡ Accepted → line_verdict k n w cs (row_of (flow_bytes f)) ≡ Accepted
+  pub flow_taken : (k w : ℕ) (cs : List Cluster) → due k n w ≡ 3 → flow_verdict k n f ≡ accepted → line_verdict k n w cs (row_of (flow_bytes f)) ≡ accepted
   unfolding fields_verdict misplaced repeated
   flow_taken k w cs d good =
       let e = flow_fields_lem in

@@ -16,16 +16,15 @@ use Rattle.hexroom.specs.RoundTrip.{rows_line}
 use Rattle.site.specs.declared.Cluster.{Cluster}
 use Rattle.site.specs.declared.Flow.{Flow}
 use Rattle.site.specs.declared.Site.{Site}
-use Rattle.site.specs.declared.Verdict.TheVariants.{Accepted}
+use Rattle.site.specs.Refusals.{accepted}
 use Rattle.site.specs.Records.{absent, no_flow, no_site}
 use Rattle.site.specs.Table.{due}
-use Rattle.reader.specs.Reading.{with_header, verdict_at, entered, accepted, read_rows, read_text}
+use Rattle.reader.specs.Reading.{with_header, verdict_at, entered, accepted as taken, read_rows, read_text}
 use Rattle.reader.specs.ReadLaws.{rows_taken}
 use Rattle.records.specs.Check.{checked}
 use Rattle.writer.specs.Text.{header_bytes, cluster_bytes, flow_bytes, text_of}
 use Rattle.roundtrip.specs.Due.{cluster_due, flow_due, none_due}
-use Rattle.records.specs.Checked.{Unrefused, checked_unrefused, parent_byte, counts_in, cluster_tests, site_cluster_in, site_flow_in}
-use Rattle.records.specs.Checked.{clusters_reach, flows_reach}
+use Rattle.records.specs.Checked.{Unrefused, checked_unrefused, parent_byte, counts_in, cluster_tests, site_cluster_in, site_flow_in, clusters_reach, flows_reach}
 use Rattle.roundtrip.specs.Kept.{kept_first, kept, cluster_kept, flow_kept, kept_taken}
 use Rattle.roundtrip.specs.LinesBack.{row_of, header_fields_lem, header_taken, cluster_back, cluster_taken, flow_back, flow_taken}
 
@@ -40,7 +39,7 @@ module _ {A : Type 0} (bytes : A → List ℕ) (xs : List A) (i n : ℕ) where
   lines_none l h = rw (drop_of_length-le (take n xs) {i = i} (omega (arith, length-take-le n xs h)))
 
 -- the reader takes a line that was written
-line_read : (k : ℕ) (s s' : Site) (bs rest : List ℕ) → verdict_at k s (row_of bs) ≡ Accepted → entered k s (hexes bs) ≡ s'
+line_read : (k : ℕ) (s s' : Site) (bs rest : List ℕ) → verdict_at k s (row_of bs) ≡ accepted → entered k s (hexes bs) ≡ s'
     → read_rows k s (rows (line_of bs ++ rest)) ≡ read_rows (k + 1) s' (rows rest)
 line_read k s s' bs rest z e = rw (rows_line bs rest, rows_taken k s (row_of bs) (rows rest) z, e)
 
@@ -110,7 +109,7 @@ module _ (s : Site) (sound : Unrefused s) where
       (cluster_read i l (behind ++ rest) ∙ clusters_read m (i + 1) (omega arith) rest)
 
   -- m flows from j on, then the end
-  flows_read : (m j : ℕ) → m + j ≡ f → read_rows (2 + n + j) (kept_first s n j) (rows (lines_of flow_bytes (drop j (take f s.flows)))) ≡ accepted (kept_first s n f)
+  flows_read : (m j : ℕ) → m + j ≡ f → read_rows (2 + n + j) (kept_first s n j) (rows (lines_of flow_bytes (drop j (take f s.flows)))) ≡ taken (kept_first s n f)
   unfolding read_rows rows kept_first
   flows_read zero j e =
       let q : j ≡ f = omega arith in
@@ -119,7 +118,7 @@ module _ (s : Site) (sound : Unrefused s) where
       rw (lines_next flow_bytes s.flows j f no_flow (omega arith) (flows_reach s sound))
       (flow_read j (omega arith) (lines_of flow_bytes (drop (j + 1) (take f s.flows))) ∙ flows_read m (j + 1) (omega arith))
 
-pub read_of_write : (s : Site) → checked s ≡ Accepted → read_text (text_of s) ≡ accepted (kept s)
+pub read_of_write : (s : Site) → checked s ≡ accepted → read_text (text_of s) ≡ taken (kept s)
 unfolding read_text text_of kept
 read_of_write s e =
     let n : ℕ = s.cluster_count in let f : ℕ = s.flow_count in

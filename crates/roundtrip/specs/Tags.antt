@@ -1,6 +1,6 @@
 -- Two tags are the same exactly if their lengths are equal and so is every byte up to that length (docs/FORMATS.md, "Site text"). So any byte up to the length tells
 -- two tags apart; two tags of the pump hall that agree in 16 bytes and differ in the 17th are worked through.
-use Rattle.std.specs.Prelude.{◌≡◌, refl, Bool, true, false, ◌&&◌, List, [], ◌∷◌, ◌++◌, ◌↔◌, ℕ, ◌-◌, ◌≤◌, ◌<◌, length, get_or, take, replicate, eqb}
+use Rattle.std.specs.Prelude.{◌≡◌, refl, Bool, true, false, ◌&&◌, List, [], ◌∷◌, ◌++◌, ◌↔◌, ℕ, ◌-◌, ◌≤◌, ◌<◌, length, get_or, take, replicate, eqb, Err}
 use Rattle.std.proofs.Common.{sym, ◌∙◌, arith, ext_get_or, get_or-take, length-take-le}
 use Rattle.std.proofs.Math.Bool.{and-false}
 use Prim.Native.Char.{code}
@@ -10,7 +10,8 @@ use Rattle.hexline.specs.Loops.{every, every_all, every_at, every_fails, filled}
 use Rattle.hexline.specs.Digits.{is_digit, digit, all_digits, byte_at}
 use Rattle.hexline.specs.Lines.{rows, malformed}
 use Rattle.site.specs.declared.Tag.{Tag}
-use Rattle.site.specs.declared.Verdict.TheVariants.{Accepted, Refused}
+use Rattle.site.specs.Refusals.{accepted}
+use Rattle.site.specs.Told.{refusal}
 use Rattle.site.specs.Records.{no_site, same_tag, wrong_parent, tag_taken}
 use Rattle.site.specs.Fields.{first_bad, header_verdict, cluster_verdict}
 use Rattle.site.specs.Lines.{size, tag_at, cluster_of}
@@ -63,8 +64,8 @@ pump_hall_tags = (refl, refl)
 
 -- a site of the two is accepted; with the first tag twice it is refused by 6 at line 3
 pub pump_hall_site :
-    ((read_text (ascii "01010200\n02FF001150554D5048414C4C2D4E4F5254482D3141\n0200001150554D5048414C4C2D4E4F5254482D3142\n")).verdict ≡ Accepted)
-    × ((read_text (ascii "01010200\n02FF001150554D5048414C4C2D4E4F5254482D3141\n0200001150554D5048414C4C2D4E4F5254482D3141\n")).verdict ≡ Refused 6 3 255)
+    ((read_text (ascii "01010200\n02FF001150554D5048414C4C2D4E4F5254482D3141\n0200001150554D5048414C4C2D4E4F5254482D3142\n")).verdict ≡ accepted)
+    × ((read_text (ascii "01010200\n02FF001150554D5048414C4C2D4E4F5254482D3141\n0200001150554D5048414C4C2D4E4F5254482D3141\n")).verdict ≡ Err (refusal 6 3 255))
 unfolding ascii rows malformed all_digits is_digit digit byte_at every filled no_site same_tag first_bad header_verdict cluster_verdict wrong_parent tag_taken
     size tag_at cluster_of due wrong_kind wrong_length fields_verdict misplaced repeated line_verdict with_header with_cluster entered read_rows read_text
 pump_hall_site = (refl, refl)

@@ -2,7 +2,7 @@
 -- After i clusters and j flows the records so far are sound, and their text with the rows that are left is the whole text. Each line that is taken keeps
 -- that: it is stored behind the records before it, and its bytes are those of its record. At the end no row is left.
 use Rattle.std.proofs.Math.Path.{◌≡◌, ap}
-use Rattle.std.specs.Prelude.{refl, not, ℕ, ◌+◌, ◌-◌, ◌≤◌, ◌<◌, take, set, ltb, eqb}
+use Rattle.std.specs.Prelude.{refl, not, ℕ, ◌+◌, ◌-◌, ◌≤◌, ◌<◌, take, set, ltb, eqb, Ok, Err}
 use Rattle.std.proofs.Common.{sym, ◌∙◌, subst, add-one, get_or-set_same, take-suc-set, ltb-true, ltb-false, eqb-true}
 use Rattle.std.proofs.Math.Bool.{false}
 use mathlib.Core.List.{List, [], ◌∷◌, ◌++◌, append_assoc, append-nil}
@@ -19,41 +19,40 @@ use Rattle.site.specs.declared.Tag.{Tag}
 use Rattle.site.specs.declared.Cluster.{Cluster}
 use Rattle.site.specs.declared.Flow.{Flow}
 use Rattle.site.specs.declared.Site.{Site}
-use Rattle.site.specs.declared.Verdict.{Verdict}
-use Rattle.site.specs.declared.Verdict.TheVariants.{Accepted, Refused}
+use Rattle.site.specs.Refusals.{Verdict, accepted}
+use Rattle.site.specs.Told.{refusal}
 use Rattle.site.specs.Records.{absent, no_flow, no_site, same_tag, wrong_parent, tag_taken}
 use Rattle.site.specs.Fields.{header_verdict}
 use Rattle.site.specs.Lines.{tag_at, cluster_of, flow_of}
 use Rattle.site.specs.Table.{due}
 use Rattle.reader.specs.declared.Reading.{Reading}
-use Rattle.reader.specs.Reading.{with_header, with_cluster, with_flow, verdict_at, entered, accepted, onward, read_rows, read_text}
+use Rattle.reader.specs.Reading.{with_header, with_cluster, with_flow, verdict_at, entered, accepted as taken, onward, read_rows, read_text}
 use Rattle.records.specs.Check.{cluster_checked, flow_checked, checked}
 use Rattle.writer.specs.Text.{header_bytes, cluster_bytes, flow_bytes, text_of}
 use Rattle.roundtrip.specs.Due.{cluster_due, flow_due, none_due}
 use Rattle.records.specs.Checked.{unrefused_checked, header_in_lem, cluster_in}
-use Rattle.roundtrip.specs.LinesAgain.{joined, joined_none, joined_rows, header_again, cluster_again, flow_again, line_again}
-use Rattle.roundtrip.specs.LinesAgain.{taken_is_due, taken-length, taken_header, taken_cluster, taken_flow}
+use Rattle.roundtrip.specs.LinesAgain.{joined, joined_none, joined_rows, header_again, cluster_again, flow_again, line_again, taken_is_due, taken-length, taken_header, taken_cluster, taken_flow}
 
 -- ---- the reader of an accepted text
 
-onward_accepted : (v : Verdict) (next : Reading) (done : Site) → onward v next ≡ accepted done → (v ≡ Accepted) × (next ≡ accepted done)
-onward_accepted Accepted next done e = (refl, e)
-onward_accepted (Refused m k p) next done e =
-    absurd (let z : Refused m k p ≡ Accepted = ap (λ (x : Reading). x.verdict) e in let z' : ◌≡◌ {A = ℕ} 0 1 = cc in omega arith)
+onward_accepted : (v : Verdict) (next : Reading) (done : Site) → onward v next ≡ taken done → (v ≡ accepted) × (next ≡ taken done)
+onward_accepted (Ok _) next done e = (refl, e)
+onward_accepted (Err (refusal m k p)) next done e =
+    absurd (let z : Err (refusal m k p) ≡ accepted = ap (λ (x : Reading). x.verdict) e in let z' : ◌≡◌ {A = ℕ} 0 1 = cc in omega arith)
 
 module _ (k : ℕ) (s done : Site) where
   -- a line of it is taken
-  goes_on : (r : Row) (rs : List Row) → read_rows k s (r ∷ rs) ≡ accepted done
-      → (verdict_at k s r ≡ Accepted) × (read_rows (k + 1) (entered k s r.chars) rs ≡ accepted done)
+  goes_on : (r : Row) (rs : List Row) → read_rows k s (r ∷ rs) ≡ taken done
+      → (verdict_at k s r ≡ accepted) × (read_rows (k + 1) (entered k s r.chars) rs ≡ taken done)
   unfolding read_rows
   goes_on r rs e = onward_accepted (verdict_at k s r) (read_rows (k + 1) (entered k s r.chars) rs) done e
 
   -- at its end no line is due
-  ends : read_rows k s [] ≡ accepted done → (due k s.cluster_count s.flow_count ≡ 0) × (s ≡ done)
+  ends : read_rows k s [] ≡ taken done → (due k s.cluster_count s.flow_count ≡ 0) × (s ≡ done)
   unfolding read_rows
   ends e = elim (decide (eqb (due k s.cluster_count s.flow_count) 0)) [
     | inl q ↦ (eqb-true _ _ q, ap (λ (x : Reading). x.site) (rw q at e))
-    | inr q ↦ let z : Refused 2 k 255 ≡ Accepted = ap (λ (x : Reading). x.verdict) (rw q at e) in absurd (let z' : ◌≡◌ {A = ℕ} 0 1 = cc in omega arith)
+    | inr q ↦ let z : Err (refusal 2 k 255) ≡ accepted = ap (λ (x : Reading). x.verdict) (rw q at e) in absurd (let z' : ◌≡◌ {A = ℕ} 0 1 = cc in omega arith)
   ]
 
 -- the records with that of a line that is taken
@@ -75,11 +74,11 @@ text_first s i j =
 
 -- i clusters and j flows of a text t were read, and the rows rs are left
 record SoFar (t : List ℕ) (i j : ℕ) (s : Site) (rs : List Row) : Type 0 where
-  header : header_verdict 1 1 s.cluster_count s.flow_count ≡ Accepted
+  header : header_verdict 1 1 s.cluster_count s.flow_count ≡ accepted
   cluster_room : length s.clusters ≡ 64
   flow_room : length s.flows ≡ 128
-  clusters : (x : ℕ) → x < i → cluster_checked s.clusters x ≡ Accepted
-  flows : (x : ℕ) → x < j → flow_checked s.cluster_count s.flows x ≡ Accepted
+  clusters : (x : ℕ) → x < i → cluster_checked s.clusters x ≡ accepted
+  flows : (x : ℕ) → x < j → flow_checked s.cluster_count s.flows x ≡ accepted
   text : text_first s i j ++ joined rs ≡ t
 
 -- one entry more, stored behind those before it
@@ -131,7 +130,7 @@ module _ (t : List ℕ) (s : Site) (r : Row) (rs : List Row) where
   abbrev l : List ℕ
   l = r.chars
 
-  cluster_more : (i : ℕ) → i < n → due (2 + i) n f ≡ 2 → verdict_at (2 + i) s r ≡ Accepted → SoFar t i 0 s (r ∷ rs) → SoFar t (i + 1) 0 (with_cluster s i (cluster_of l)) rs
+  cluster_more : (i : ℕ) → i < n → due (2 + i) n f ≡ 2 → verdict_at (2 + i) s r ≡ accepted → SoFar t i 0 s (r ∷ rs) → SoFar t (i + 1) 0 (with_cluster s i (cluster_of l)) rs
   unfolding with_cluster cluster_checked cluster_of tag_at
   cluster_more i within is z so =
       let c : Cluster = cluster_of l in
@@ -147,7 +146,7 @@ module _ (t : List ℕ) (s : Site) (r : Row) (rs : List Row) where
         header = so.header;
         cluster_room = length-set cs i c ∙ so.cluster_room;
         flow_room = so.flow_room;
-        clusters = below_next (λ x. cluster_checked (set cs i c) x ≡ Accepted) i
+        clusters = below_next (λ x. cluster_checked (set cs i c) x ≡ accepted) i
             (λ x p. check_looks_up_to cs (set cs i c) x (λ y q. same y (omega arith)) ∙ so.clusters x p)
             (rw (get_or-set_same cs i c absent room, tests.1, parent, free));
         flows = so.flows;
@@ -156,7 +155,7 @@ module _ (t : List ℕ) (s : Site) (r : Row) (rs : List Row) where
             so.text;
       }
 
-  flow_more : (j : ℕ) → j < f → due (2 + n + j) n f ≡ 3 → verdict_at (2 + n + j) s r ≡ Accepted → SoFar t n j s (r ∷ rs) → SoFar t n (j + 1) (with_flow s j (flow_of l)) rs
+  flow_more : (j : ℕ) → j < f → due (2 + n + j) n f ≡ 3 → verdict_at (2 + n + j) s r ≡ accepted → SoFar t n j s (r ∷ rs) → SoFar t n (j + 1) (with_flow s j (flow_of l)) rs
   unfolding with_flow
   flow_more j within is z so =
       let w : Flow = flow_of l in
@@ -168,7 +167,7 @@ module _ (t : List ℕ) (s : Site) (r : Row) (rs : List Row) where
         cluster_room = so.cluster_room;
         flow_room = length-set fs j w ∙ so.flow_room;
         clusters = so.clusters;
-        flows = below_next (λ x. flow_checked n (set fs j w) x ≡ Accepted) j
+        flows = below_next (λ x. flow_checked n (set fs j w) x ≡ accepted) j
             (λ x p. rw (get_or-set_other fs j x w no_flow (λ e. omega arith)) (so.flows x p))
             (rw (get_or-set_same fs j w no_flow room, tests.1));
         text = text_more (text_first s n j) (text_first (with_flow s j w) n (j + 1)) (line_of (flow_bytes w)) t r rs (flow_text s n j w room)
@@ -179,7 +178,7 @@ module _ (t : List ℕ) (s : Site) (r : Row) (rs : List Row) where
 -- ---- line by line
 
 -- every line was read
-all_read : (t : List ℕ) (s : Site) → SoFar t s.cluster_count s.flow_count s [] → (checked s ≡ Accepted) × (text_of s ≡ t)
+all_read : (t : List ℕ) (s : Site) → SoFar t s.cluster_count s.flow_count s [] → (checked s ≡ accepted) × (text_of s ≡ t)
 unfolding text_of text_first
 all_read t s so = (
   unrefused_checked s (record { header = so.header; clusters = so.clusters; flows = so.flows }),
@@ -188,7 +187,7 @@ all_read t s so = (
 
 -- flow j is next
 flows_again : (rs : List Row) (t : List ℕ) (j : ℕ) (s done : Site) → j ≤ s.flow_count → SoFar t s.cluster_count j s rs
-    → read_rows (2 + s.cluster_count + j) s rs ≡ accepted done → (checked done ≡ Accepted) × (text_of done ≡ t)
+    → read_rows (2 + s.cluster_count + j) s rs ≡ taken done → (checked done ≡ accepted) × (text_of done ≡ t)
 unfolding with_flow
 flows_again [] t j s done few so e =
     let n : ℕ = s.cluster_count in let f : ℕ = s.flow_count in
@@ -197,7 +196,7 @@ flows_again [] t j s done few so e =
       | inl p ↦ let l = ltb-true j f p in absurd (omega (arith, sym (flow_due (2 + n + j) n f (omega arith) (omega arith)) ∙ end.0))
       | inr p ↦
           let last : j ≡ f = omega (arith, ltb-false j f p) in
-          subst (λ (x : Site). (checked x ≡ Accepted) × (text_of x ≡ t)) end.1 (all_read t s (subst (λ (x : ℕ). SoFar t n x s []) last so))
+          subst (λ (x : Site). (checked x ≡ accepted) × (text_of x ≡ t)) end.1 (all_read t s (subst (λ (x : ℕ). SoFar t n x s []) last so))
     ]
 flows_again (r ∷ rs) t j s done few so e =
     let n : ℕ = s.cluster_count in let f : ℕ = s.flow_count in
@@ -214,7 +213,7 @@ flows_again (r ∷ rs) t j s done few so e =
 
 -- no cluster is left: the flows follow
 no_cluster_left : (rs : List Row) (t : List ℕ) (i : ℕ) (s done : Site) → i ≡ s.cluster_count → SoFar t i 0 s rs
-    → read_rows (2 + i) s rs ≡ accepted done → (checked done ≡ Accepted) × (text_of done ≡ t)
+    → read_rows (2 + i) s rs ≡ taken done → (checked done ≡ accepted) × (text_of done ≡ t)
 no_cluster_left rs t i s done q so e =
     let n : ℕ = s.cluster_count in
     let start : 2 + i ≡ 2 + n + 0 = omega arith in
@@ -222,7 +221,7 @@ no_cluster_left rs t i s done q so e =
 
 -- cluster i is next
 clusters_again : (rs : List Row) (t : List ℕ) (i : ℕ) (s done : Site) → i ≤ s.cluster_count → SoFar t i 0 s rs
-    → read_rows (2 + i) s rs ≡ accepted done → (checked done ≡ Accepted) × (text_of done ≡ t)
+    → read_rows (2 + i) s rs ≡ taken done → (checked done ≡ accepted) × (text_of done ≡ t)
 unfolding with_cluster
 clusters_again [] t i s done few so e =
     let n : ℕ = s.cluster_count in
@@ -246,7 +245,7 @@ clusters_again (r ∷ rs) t i s done few so e =
     ]
 
 -- the header is next
-text_again : (rs : List Row) (t : List ℕ) (done : Site) → joined rs ≡ t → read_rows 1 no_site rs ≡ accepted done → (checked done ≡ Accepted) × (text_of done ≡ t)
+text_again : (rs : List Row) (t : List ℕ) (done : Site) → joined rs ≡ t → read_rows 1 no_site rs ≡ taken done → (checked done ≡ accepted) × (text_of done ≡ t)
 unfolding no_site with_header entered due text_first lines_of
 text_again [] t done p e = absurd (omega (arith, (ends 1 no_site done e).0))
 text_again (r ∷ rs) t done p e =
@@ -267,6 +266,6 @@ text_again (r ∷ rs) t done p e =
     })
     on.1
 
-pub write_of_read : (t : List ℕ) (s : Site) → read_text t ≡ accepted s → (checked s ≡ Accepted) × (text_of s ≡ t)
+pub write_of_read : (t : List ℕ) (s : Site) → read_text t ≡ taken s → (checked s ≡ accepted) × (text_of s ≡ t)
 unfolding read_text
 write_of_read t s e = text_again (rows t) t s (joined_rows t) e

@@ -114,6 +114,7 @@ fn solved_end(start: u8, end: u8, figures: &Figures, counts: &mut [u8]) -> u8
     let mut from = start;
     let mut below = end;
     let mut step: u8 = 1;
+    // By halves: which order comes next is told by the last, so there is no row to go over.
     while from < below {
         let order = below - step;
         match probe(Order::new(order), figures, counts) {

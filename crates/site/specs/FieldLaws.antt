@@ -7,7 +7,9 @@ use native.Mathlib.Omega.{arith}
 use Rattle.model.specs.Orders.{largest}
 use Rattle.hexline.specs.Loops.{decide}
 use Rattle.site.specs.declared.Cluster.{Cluster}
-use Rattle.site.specs.declared.Verdict.TheVariants.{Accepted, Refused}
+use Rattle.std.specs.Prelude.{Err}
+use Rattle.site.specs.Refusals.{accepted}
+use Rattle.site.specs.Told.{refusal}
 use Rattle.site.specs.Fields.{Field, outside, header_fields, header_values, header_verdict, front, behind, first_bad, order_field, length_field, tag_byte, cluster_verdict, untagged_verdict, tag_verdict}
 use Rattle.site.specs.Table.{or_else}
 
@@ -36,14 +38,14 @@ values_alike k p (f ∷ fs) vs ws h =
 
 -- n fields of one kind, a byte each, from place p on
 module _ (k : ℕ) where
-  pub run_good : (n p : ℕ) (vs : List ℕ) → ((i : ℕ) → i < n → outside 33 126 (get_or vs i 0) ≡ false) → first_bad k p (replicate n tag_byte) vs ≡ Accepted
+  pub run_good : (n p : ℕ) (vs : List ℕ) → ((i : ℕ) → i < n → outside 33 126 (get_or vs i 0) ≡ false) → first_bad k p (replicate n tag_byte) vs ≡ accepted
   unfolding first_bad
   run_good zero p vs h = refl
   run_good (suc n) p vs h =
       rw (front_is vs, h 0 (omega arith)) (run_good n (p + 1) (behind vs) (λ i l. rw (behind_at vs i) (h (suc i) (omega arith))))
 
   pub run_bad : (n p : ℕ) (vs : List ℕ) (i : ℕ) → i < n → ((j : ℕ) → j < i → outside 33 126 (get_or vs j 0) ≡ false) → outside 33 126 (get_or vs i 0) ≡ true
-      → first_bad k p (replicate n tag_byte) vs ≡ Refused 12 k (p + i)
+      → first_bad k p (replicate n tag_byte) vs ≡ Err (refusal 12 k (p + i))
   unfolding first_bad
   run_bad zero p vs i l h b = absurd (omega arith)
   run_bad (suc n) p vs zero l h b = let e : p + 0 ≡ p = omega arith in rw (front_is vs, b, e)
@@ -65,16 +67,16 @@ abbrev pub AllGood : List Field → List ℕ → Type 0
 AllGood [] vs = Unit {0}
 AllGood (f ∷ fs) vs = (f.bad (front vs) ≡ false) × AllGood fs (behind vs)
 
-pub all_good : (k p : ℕ) (fs : List Field) (vs : List ℕ) → first_bad k p fs vs ≡ Accepted → AllGood fs vs
+pub all_good : (k p : ℕ) (fs : List Field) (vs : List ℕ) → first_bad k p fs vs ≡ accepted → AllGood fs vs
 unfolding first_bad
 all_good k p [] vs e = tt
 all_good k p (f ∷ fs) vs e = elim (decide (f.bad (front vs))) [
-  | inl q ↦ let z : Refused f.number k p ≡ Accepted = rw q at e in absurd (let z' : ◌≡◌ {A = ℕ} 0 1 = cc in omega arith)
+  | inl q ↦ let z : Err (refusal f.number k p) ≡ accepted = rw q at e in absurd (let z' : ◌≡◌ {A = ℕ} 0 1 = cc in omega arith)
   | inr q ↦ (q, all_good k (p + f.width) fs (behind vs) (rw q at e))
 ]
 
 -- the counts of a header with no bad field
-pub header_counts : (k v n f : ℕ) → header_verdict k v n f ≡ Accepted → (1 ≤ n) × (n ≤ 64) × (f ≤ 128)
+pub header_counts : (k v n f : ℕ) → header_verdict k v n f ≡ accepted → (1 ≤ n) × (n ≤ 64) × (f ≤ 128)
 unfolding header_verdict
 header_counts k v n f e =
     let good = all_good k 0 header_fields (header_values v n f) e in
@@ -82,6 +84,6 @@ header_counts k v n f e =
     (few.0, few.1, ltb-false 128 f good.1.1.1.0)
 
 -- a tag length before the tag with no bad field
-pub tag_length_in : (k order len : ℕ) → untagged_verdict k order len ≡ Accepted → (1 ≤ len) × (len ≤ 64)
+pub tag_length_in : (k order len : ℕ) → untagged_verdict k order len ≡ accepted → (1 ≤ len) × (len ≤ 64)
 unfolding untagged_verdict
 tag_length_in k order len e = inside 1 64 len (all_good k 2 (order_field ∷ length_field ∷ []) (order ∷ len ∷ []) e).1.0

@@ -5,8 +5,9 @@ use Rattle.model.specs.Orders.{largest}
 use Rattle.site.specs.declared.Tag.{Tag}
 use Rattle.site.specs.declared.Cluster.{Cluster}
 use Rattle.site.specs.declared.Flow.{Flow}
-use Rattle.site.specs.declared.Verdict.{Verdict}
-use Rattle.site.specs.declared.Verdict.TheVariants.{Accepted, Refused}
+use Rattle.std.specs.Prelude.{Err}
+use Rattle.site.specs.Refusals.{Verdict, accepted}
+use Rattle.site.specs.Told.{refusal}
 
 -- a field: how many bytes it has, which of its values are bad, and by which number they are refused
 pub record Field : Type 0 where
@@ -59,10 +60,6 @@ flow_fields n =
     ∷ field 4 (outside 1 1000000000) 14
     ∷ []
 
--- the place of a refusal that names no field: FF
-abbrev pub no_place : ℕ
-no_place = 255
-
 -- the value at the front, 0 behind the last, and the values behind it
 abbrev pub front : List ℕ → ℕ
 front [] = 0
@@ -74,8 +71,8 @@ behind (v ∷ vs) = vs
 
 -- the first field that is bad, from place p of line k on
 unfoldable pub first_bad : ℕ → ℕ → List Field → List ℕ → Verdict
-first_bad k p [] vs = Accepted
-first_bad k p (f ∷ fs) vs = cond (f.bad (front vs)) (Refused f.number k p) (first_bad k (p + f.width) fs (behind vs))
+first_bad k p [] vs = accepted
+first_bad k p (f ∷ fs) vs = cond (f.bad (front vs)) (Err (refusal f.number k p)) (first_bad k (p + f.width) fs (behind vs))
 
 -- the values of a record, in the order of its line
 abbrev pub header_values : ℕ → ℕ → ℕ → List ℕ

@@ -1,5 +1,8 @@
 -- the records, the table of refusals, and what the answers say
 pub mod Records
+pub mod Told
+pub mod Refusals
+pub mod Kinds
 pub mod Fields
 pub mod Lines
 pub mod Table

@@ -5,7 +5,9 @@ use Rattle.std.proofs.lemmas.List.{length-replicate}
 use Rattle.std.proofs.lemmas.Bool.{not-true}
 use Rattle.hexline.specs.Loops.{decide, every_at, every_all, filled_at}
 use Rattle.hexline.specs.Digits.{byte_at}
-use Rattle.site.specs.declared.Verdict.TheVariants.{Accepted, Refused}
+use Rattle.std.specs.Prelude.{Err}
+use Rattle.site.specs.Refusals.{accepted}
+use Rattle.site.specs.Told.{refusal}
 use Rattle.site.specs.Fields.{outside, cluster_verdict, untagged_verdict, tag_verdict}
 use Rattle.site.specs.FieldLaws.{run_good, run_bad, cluster_parts}
 use Rattle.site.specs.Lines.{tag_at, cluster_of, printable_line, FirstUnprintable}
@@ -31,13 +33,13 @@ cluster_line_parts k l = cluster_parts k (cluster_of l)
 
 -- the verdict on the tag bytes of a line: none is bad, or the first bad one is found
 module _ (k : ℕ) (l : List ℕ) (n : ℕ) (short : n ≤ 64) where
-  pub tag_line_good : printable_line l n ≡ true → tag_verdict k (tag_at l 4 n) ≡ Accepted
+  pub tag_line_good : printable_line l n ≡ true → tag_verdict k (tag_at l 4 n) ≡ accepted
   unfolding tag_verdict printable_line
   tag_line_good e =
       rw (tag-length l 4 n)
       (run_good k n 4 (tag_at l 4 n).bytes (λ i p. rw (tag_byte_lem l 4 n short i p) (not-true _ (every_at _ n i e p))))
 
-  pub tag_line_bad : (i : ℕ) → FirstUnprintable l n i → tag_verdict k (tag_at l 4 n) ≡ Refused 12 k (4 + i)
+  pub tag_line_bad : (i : ℕ) → FirstUnprintable l n i → tag_verdict k (tag_at l 4 n) ≡ Err (refusal 12 k (4 + i))
   unfolding tag_verdict
   tag_line_bad i f =
       rw (tag-length l 4 n)

@@ -13,8 +13,9 @@ use Rattle.hexline.specs.DigitLaws.{between_low, between_high, between_in}
 use Rattle.hexline.specs.Lines.{Row, malformed}
 use Rattle.site.specs.declared.Cluster.{Cluster}
 use Rattle.site.specs.declared.Flow.{Flow}
-use Rattle.site.specs.declared.Verdict.{Verdict}
-use Rattle.site.specs.declared.Verdict.TheVariants.{Accepted, Refused}
+use Rattle.std.specs.Prelude.{Ok, Err}
+use Rattle.site.specs.Refusals.{Verdict, accepted}
+use Rattle.site.specs.Told.{refusal}
 use Rattle.site.specs.Fields.{Field, free, header_fields, cluster_fields, flow_fields, header_values, cluster_values, flow_values, front, behind, first_bad, order_field, length_field, tag_byte, header_verdict, cluster_verdict, untagged_verdict, tag_verdict, flow_verdict}
 use Rattle.site.specs.FieldLaws.{front_is, behind_at, cluster_parts, tag_length_in}
 use Rattle.site.specs.Lines.{cluster_of, flow_of}
@@ -41,12 +42,12 @@ first_good f fs vs i b h zero l = rw (← front_is vs) b
 first_good f fs vs i b h (suc j) l = rw (← behind_at vs j) (h j (omega arith))
 
 -- the same from place q on
-names_from : (k q : ℕ) (fs : List Field) (vs : List ℕ) (m a p : ℕ) → first_bad k q fs vs ≡ Refused m a p → (a ≡ k) × (q ≤ p) × NamesFirstBad fs vs m (p - q)
+names_from : (k q : ℕ) (fs : List Field) (vs : List ℕ) (m a p : ℕ) → first_bad k q fs vs ≡ Err (refusal m a p) → (a ≡ k) × (q ≤ p) × NamesFirstBad fs vs m (p - q)
 unfolding first_bad
 names_from k q [] vs m a p e = absurd (let z : ◌≡◌ {A = ℕ} 0 1 = cc in omega arith)
 names_from k q (f ∷ fs) vs m a p e = elim (decide (f.bad (front vs))) [
   | inl b ↦
-      let z : Refused f.number k q ≡ Refused m a p = rw b at e in
+      let z : Err (refusal f.number k q) ≡ Err (refusal m a p) = rw b at e in
       let at : q ≡ p = cc in
       let by : f.number ≡ m = cc in
       let line : k ≡ a = cc in (
@@ -77,7 +78,7 @@ names_from k q (f ∷ fs) vs m a p e = elim (decide (f.bad (front vs))) [
       )
 ]
 
-pub names_first_bad : (k : ℕ) (fs : List Field) (vs : List ℕ) (m a p : ℕ) → first_bad k 0 fs vs ≡ Refused m a p → (a ≡ k) × NamesFirstBad fs vs m p
+pub names_first_bad : (k : ℕ) (fs : List Field) (vs : List ℕ) (m a p : ℕ) → first_bad k 0 fs vs ≡ Err (refusal m a p) → (a ≡ k) × NamesFirstBad fs vs m p
 names_first_bad k fs vs m a p e = let h = names_from k 0 fs vs m a p e in (h.0, rw (sub-zero p) at h.2)
 
 -- ---- the numbers and places of fields
@@ -88,8 +89,8 @@ FieldAt m p = (10 ≤ m) × (m ≤ 14) × (p ≤ 67)
 
 -- a verdict refuses, if at all, by such a number at such a place
 abbrev pub ByField : Verdict → Type 0
-ByField Accepted = Unit {0}
-ByField (Refused m k p) = FieldAt m p
+ByField (Ok _) = Unit {0}
+ByField (Err (refusal m k p)) = FieldAt m p
 
 -- each field of a table from place p on that can be bad has such a number and such a place
 abbrev Placed : ℕ → List Field → Type 0
@@ -105,9 +106,9 @@ tags_placed : (n p : ℕ) → p + n ≤ 68 → Placed p (replicate n tag_byte)
 tags_placed zero p h = tt
 tags_placed (suc n) p h = (λ v e. (omega arith, omega arith, omega arith), tags_placed n (p + 1) (omega arith))
 
-either_by_field : (a b : Verdict) → ByField a → (a ≡ Accepted → ByField b) → ByField (or_else a b)
-either_by_field Accepted b p q = q refl
-either_by_field (Refused m k p') b p q = p
+either_by_field : (a b : Verdict) → ByField a → (a ≡ accepted → ByField b) → ByField (or_else a b)
+either_by_field (Ok _) b p q = q refl
+either_by_field (Err (refusal m k p')) b p q = p
 
 module _ (k : ℕ) where
   pub header_place : (v n f : ℕ) → ByField (header_verdict k v n f)
@@ -147,9 +148,9 @@ pub field_own : (m p : ℕ) → FieldAt m p → own_number m ≡ true
 field_own m p h = rw (between_high 1 3 m (omega arith)) (field_record m p h)
 
 -- such a refusal has a place, and its number is a field's
-pub only_then : (v : Verdict) → ByField v → (m a p : ℕ) → v ≡ Refused m a p → eqb p 255 ≡ not (between 10 14 m)
-only_then Accepted h m a p e = absurd (let z : ◌≡◌ {A = ℕ} 0 1 = cc in omega arith)
-only_then (Refused m' a' p') h m a p e =
+pub only_then : (v : Verdict) → ByField v → (m a p : ℕ) → v ≡ Err (refusal m a p) → eqb p 255 ≡ not (between 10 14 m)
+only_then (Ok _) h m a p e = absurd (let z : ◌≡◌ {A = ℕ} 0 1 = cc in omega arith)
+only_then (Err (refusal m' a' p')) h m a p e =
     let by : m' ≡ m = cc in
     let at : p' ≡ p = cc in
     rw (ne_eqb p 255 (λ q. omega arith), between_in 10 14 m (omega arith) (omega arith))
@@ -159,15 +160,15 @@ only_then (Refused m' a' p') h m a p e =
 -- what follows from the refusal of each of some verdicts follows from that of the first that refuses
 abbrev Each : Type 0 → ℕ → ℕ → ℕ → List Verdict → Type 0
 Each R m a p [] = Unit {0}
-Each R m a p (v ∷ vs) = (v ≡ Refused m a p → R) × Each R m a p vs
+Each R m a p (v ∷ vs) = (v ≡ Err (refusal m a p) → R) × Each R m a p vs
 
-from_each : (R : Type 0) (m a p : ℕ) (vs : List Verdict) → Each R m a p vs → first_of vs ≡ Refused m a p → R
+from_each : (R : Type 0) (m a p : ℕ) (vs : List Verdict) → Each R m a p vs → first_of vs ≡ Err (refusal m a p) → R
 from_each R m a p [] h e = absurd (let z : ◌≡◌ {A = ℕ} 0 1 = cc in omega arith)
-from_each R m a p (Accepted ∷ vs) h e = from_each R m a p vs h.1 e
-from_each R m a p (Refused m' a' p' ∷ vs) h e = h.0 e
+from_each R m a p (Ok _ ∷ vs) h e = from_each R m a p vs h.1 e
+from_each R m a p (Err (refusal m' a' p') ∷ vs) h e = h.0 e
 
 -- a test that names no field
-test_refuses : (x k : ℕ) (t : Bool) (m a p : ℕ) → refused_if x k t ≡ Refused m a p → (x ≡ m) × (k ≡ a) × (p ≡ 255)
+test_refuses : (x k : ℕ) (t : Bool) (m a p : ℕ) → refused_if x k t ≡ Err (refusal m a p) → (x ≡ m) × (k ≡ a) × (p ≡ 255)
 test_refuses x k true m a p e = (cc, cc, cc)
 test_refuses x k false m a p e = absurd (let z : ◌≡◌ {A = ℕ} 0 1 = cc in omega arith)
 
@@ -195,16 +196,16 @@ module _ (k n f : ℕ) (cs : List Cluster) (r : Row) (m a p : ℕ) where
   chars = r.chars
 
   abbrev FieldOrTest : Type 0
-  FieldOrTest = (fields_verdict kind k n chars ≡ Refused m a p) ⊎ ((m < 10) × (own_number m ≡ true) × (k ≡ a) × (p ≡ 255))
+  FieldOrTest = (fields_verdict kind k n chars ≡ Err (refusal m a p)) ⊎ ((m < 10) × (own_number m ≡ true) × (k ≡ a) × (p ≡ 255))
 
-  plain : (x : ℕ) (t : Bool) → x < 10 → own_number x ≡ true → refused_if x k t ≡ Refused m a p → FieldOrTest
+  plain : (x : ℕ) (t : Bool) → x < 10 → own_number x ≡ true → refused_if x k t ≡ Err (refusal m a p) → FieldOrTest
   plain x t small own e = let h = test_refuses x k t m a p e in inr (omega arith, rw h.0 at own, h.1, h.2)
 
   -- in whatever order the verdicts stand
-  field_or_test : line_verdict k n f cs r ≡ Refused m a p → FieldOrTest
+  field_or_test : line_verdict k n f cs r ≡ Err (refusal m a p) → FieldOrTest
   unfolding line_verdict
   field_or_test e =
-      let by_fields : fields_verdict kind k n chars ≡ Refused m a p → FieldOrTest = λ q. inl q in
+      let by_fields : fields_verdict kind k n chars ≡ Err (refusal m a p) → FieldOrTest = λ q. inl q in
       let by_1 = plain 1 (malformed 136 r) (omega arith) refl in
       let by_2 = plain 2 (wrong_kind kind chars) (omega arith) refl in
       let by_3 = plain 3 (wrong_length kind chars) (omega arith) refl in
@@ -212,7 +213,7 @@ module _ (k n f : ℕ) (cs : List Cluster) (r : Row) (m a p : ℕ) where
       let by_6 = plain 6 (repeated kind k cs chars) (omega arith) refl in
       from_each FieldOrTest m a p (line_verdicts k n f r ++ (refused_if 6 k (repeated kind k cs chars) ∷ [])) (search (by_fields, by_1, by_2, by_3, by_5, by_6)) e
 
-  fields_name : fields_verdict kind k n chars ≡ Refused m a p → (a ≡ k) × NamesFirstBad (fields_due k n f r) (values_due k n f r) m p
+  fields_name : fields_verdict kind k n chars ≡ Err (refusal m a p) → (a ≡ k) × NamesFirstBad (fields_due k n f r) (values_due k n f r) m p
   unfolding fields_verdict header_verdict cluster_verdict flow_verdict
   fields_name e = elim (decide (eqb kind 1)) [
     | inl x ↦ rw x (names_first_bad k header_fields _ m a p (rw x at e))
@@ -223,21 +224,21 @@ module _ (k n f : ℕ) (cs : List Cluster) (r : Row) (m a p : ℕ) where
   ]
 
   -- a refusal by a field's number names the line's first bad field
-  pub place_is_first_bad : line_verdict k n f cs r ≡ Refused m a p → 10 ≤ m → (a ≡ k) × NamesFirstBad (fields_due k n f r) (values_due k n f r) m p
+  pub place_is_first_bad : line_verdict k n f cs r ≡ Err (refusal m a p) → 10 ≤ m → (a ≡ k) × NamesFirstBad (fields_due k n f r) (values_due k n f r) m p
   place_is_first_bad e h = elim (field_or_test e) [ inl q ↦ fields_name q | inr q ↦ absurd (omega (arith, q.0)) ]
 
-  pub line_field_at : line_verdict k n f cs r ≡ Refused m a p → 10 ≤ m → FieldAt m p
+  pub line_field_at : line_verdict k n f cs r ≡ Err (refusal m a p) → 10 ≤ m → FieldAt m p
   line_field_at e h = elim (field_or_test e) [ inl q ↦ subst ByField q (fields_place k kind n chars) | inr q ↦ absurd (omega (arith, q.0)) ]
 
   -- a line is refused by one of the site's own numbers, and with its own line
-  pub line_refusal_own : line_verdict k n f cs r ≡ Refused m a p → (own_number m ≡ true) × (a ≡ k)
+  pub line_refusal_own : line_verdict k n f cs r ≡ Err (refusal m a p) → (own_number m ≡ true) × (a ≡ k)
   line_refusal_own e = elim (field_or_test e) [
     | inl q ↦ let at : FieldAt m p = subst ByField q (fields_place k kind n chars) in (field_own m p at, (fields_name q).0)
     | inr q ↦ (q.1, sym q.2)
   ]
 
   -- the place is FF exactly for the other numbers
-  pub place_only_then : line_verdict k n f cs r ≡ Refused m a p → eqb p 255 ≡ not (between 10 14 m)
+  pub place_only_then : line_verdict k n f cs r ≡ Err (refusal m a p) → eqb p 255 ≡ not (between 10 14 m)
   place_only_then e = elim (field_or_test e) [
     | inl q ↦ only_then (fields_verdict kind k n chars) (fields_place k kind n chars) m a p q
     | inr q ↦ rw (eq-eqb p 255 q.3, between_low 10 14 m q.0)

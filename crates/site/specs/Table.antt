@@ -5,25 +5,26 @@ use Rattle.hexline.specs.Digits.{between, byte_at}
 use Rattle.hexline.specs.Lines.{Row, any_of, malformed}
 use Rattle.site.specs.declared.Cluster.{Cluster}
 use Rattle.site.specs.declared.Entry.{Entry}
-use Rattle.site.specs.declared.Entry.TheVariants.{Header, Cluster as ClusterLine, Flow as FlowLine, Refused as RefusedLine}
-use Rattle.site.specs.declared.Verdict.{Verdict}
-use Rattle.site.specs.declared.Verdict.TheVariants.{Accepted, Refused}
+use Rattle.site.specs.declared.Entry.TheVariants.{Header, Cluster as ClusterLine, Flow as FlowLine}
+use Rattle.std.specs.Prelude.{Result, Ok, Err}
+use Rattle.site.specs.Refusals.{Verdict, accepted}
+use Rattle.site.specs.Told.{Told, refusal, no_place}
 use Rattle.site.specs.Records.{wrong_parent, tag_taken}
-use Rattle.site.specs.Fields.{no_place, header_verdict, cluster_verdict, flow_verdict}
+use Rattle.site.specs.Fields.{header_verdict, cluster_verdict, flow_verdict}
 use Rattle.site.specs.Lines.{size, cluster_of, flow_of}
 
 -- a refusal by a test that names no field: its place is FF
 abbrev pub refused_if : ℕ → ℕ → Bool → Verdict
-refused_if m k t = cond t (Refused m k no_place) Accepted
+refused_if m k t = cond t (Err (refusal m k no_place)) accepted
 
 -- the first of two verdicts that refuses
 abbrev pub or_else : Verdict → Verdict → Verdict
-or_else Accepted v = v
-or_else (Refused m k p) v = Refused m k p
+or_else (Ok _) v = v
+or_else (Err t) v = Err t
 
 -- the first of a list of verdicts that refuses
 abbrev pub first_of : List Verdict → Verdict
-first_of [] = Accepted
+first_of [] = accepted
 first_of (v ∷ vs) = or_else v (first_of vs)
 
 -- the kind due at line k: 1 header, 2 cluster, 3 flow, and 0 where no line is due
@@ -66,21 +67,21 @@ line_verdicts k n f r = let d : ℕ = due k n f in refused_if 1 k (malformed 136
 unfoldable pub record_of : ℕ → List ℕ → Entry
 record_of d l =
     by_kind d
-    (Header (byte_at l 2) (byte_at l 3))
+    (Header (record { clusters = byte_at l 2; flows = byte_at l 3 }))
     (ClusterLine (byte_at l 1) (byte_at l 2) 4 (byte_at l 3))
-    (FlowLine (flow_of l).source (flow_of l).sink (flow_of l).period (flow_of l).deadline)
+    (FlowLine (flow_of l))
 
 -- the record, or the refusal
-abbrev pub answered : Verdict → Entry → Entry
-answered Accepted e = e
-answered (Refused m k p) e = RefusedLine m k p
+abbrev pub answered : Verdict → Entry → Result Entry Told
+answered (Ok _) e = Ok e
+answered (Err t) e = Err t
 
 -- what the line reader answers
-unfoldable pub entry_of : ℕ → ℕ → ℕ → Row → Entry
+unfoldable pub entry_of : ℕ → ℕ → ℕ → Row → Result Entry Told
 entry_of k n f r = answered (first_of (line_verdicts k n f r)) (record_of (due k n f) r.chars)
 
 -- what is left of it for a well-formed line of the kind d that is due
-unfoldable pub fields_of : ℕ → ℕ → ℕ → List ℕ → Entry
+unfoldable pub fields_of : ℕ → ℕ → ℕ → List ℕ → Result Entry Told
 fields_of d k n l = answered (first_of (record_verdicts d k n l)) (record_of d l)
 
 -- the verdict on line k after the clusters cs of the lines before it: then 6

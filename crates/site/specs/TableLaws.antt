@@ -9,9 +9,9 @@ use Rattle.hexline.specs.Lines.{Row, any_of, malformed}
 use Rattle.model.specs.Counting.{Each}
 use Rattle.model.specs.CountingLaws.{or_neither}
 use Rattle.site.specs.declared.Cluster.{Cluster}
-use Rattle.site.specs.declared.Entry.TheVariants.{Refused as RefusedLine}
-use Rattle.site.specs.declared.Verdict.{Verdict}
-use Rattle.site.specs.declared.Verdict.TheVariants.{Accepted, Refused}
+use Rattle.std.specs.Prelude.{Ok, Err}
+use Rattle.site.specs.Refusals.{Verdict, accepted}
+use Rattle.site.specs.Told.{refusal}
 use Rattle.site.specs.Table.{refused_if, first_of, due, wrong_kind, wrong_length, fields_verdict, misplaced, repeated, line_verdicts, entry_of, fields_of, line_verdict, record_number, own_number}
 
 -- line k by its place: the header, a cluster, a flow, or none due
@@ -48,16 +48,16 @@ module _ (k n f : ℕ) where
 
 -- the line reader's answer, test by test
 module _ (k n f : ℕ) (r : Row) where
-  pub entry_malformed : malformed 136 r ≡ true → entry_of k n f r ≡ RefusedLine 1 k 255
+  pub entry_malformed : malformed 136 r ≡ true → entry_of k n f r ≡ Err (refusal 1 k 255)
   unfolding entry_of
   entry_malformed e = rw e
 
   module _ (well : malformed 136 r ≡ false) where
-    pub entry_none_due : due k n f ≡ 0 → entry_of k n f r ≡ RefusedLine 2 k 255
+    pub entry_none_due : due k n f ≡ 0 → entry_of k n f r ≡ Err (refusal 2 k 255)
     unfolding entry_of wrong_kind
     entry_none_due d = simp (well, d)
 
-    pub entry_other_kind : (due k n f ≡ 0 → ⊥) → (byte_at r.chars 0 ≡ due k n f → ⊥) → entry_of k n f r ≡ RefusedLine 2 k 255
+    pub entry_other_kind : (due k n f ≡ 0 → ⊥) → (byte_at r.chars 0 ≡ due k n f → ⊥) → entry_of k n f r ≡ Err (refusal 2 k 255)
     unfolding entry_of wrong_kind
     entry_other_kind d h = simp (well, ne_eqb _ _ d, ne_eqb _ _ h)
 
@@ -79,7 +79,7 @@ pub record Passed (k n f : ℕ) (cs : List Cluster) (r : Row) : Type 0 where
   pub well : malformed 136 r ≡ false
   pub kind : wrong_kind (due k n f) r.chars ≡ false
   pub long : wrong_length (due k n f) r.chars ≡ false
-  pub fields : fields_verdict (due k n f) k n r.chars ≡ Accepted
+  pub fields : fields_verdict (due k n f) k n r.chars ≡ accepted
   pub below : misplaced (due k n f) k r.chars ≡ false
   pub alone : repeated (due k n f) k cs r.chars ≡ false
 
@@ -91,19 +91,19 @@ none_holds test (x ∷ xs) e = let h = or_neither (test x) (any_of (map test xs)
 -- no verdict of a list refuses
 abbrev pub AllAccept : List Verdict → Type 0
 AllAccept [] = Unit {0}
-AllAccept (v ∷ vs) = (v ≡ Accepted) × AllAccept vs
+AllAccept (v ∷ vs) = (v ≡ accepted) × AllAccept vs
 
-pub all_accept : (vs : List Verdict) → first_of vs ≡ Accepted → AllAccept vs
+pub all_accept : (vs : List Verdict) → first_of vs ≡ accepted → AllAccept vs
 all_accept [] e = tt
-all_accept (Accepted ∷ vs) e = (refl, all_accept vs e)
-all_accept (Refused m k p ∷ vs) e = absurd (let z : ◌≡◌ {A = ℕ} 0 1 = cc in omega arith)
+all_accept (Ok _ ∷ vs) e = (refl, all_accept vs e)
+all_accept (Err (refusal m k p) ∷ vs) e = absurd (let z : ◌≡◌ {A = ℕ} 0 1 = cc in omega arith)
 
-pub test_accepts : (m k : ℕ) (t : Bool) → refused_if m k t ≡ Accepted → t ≡ false
+pub test_accepts : (m k : ℕ) (t : Bool) → refused_if m k t ≡ accepted → t ≡ false
 test_accepts m k true e = absurd (let z : ◌≡◌ {A = ℕ} 0 1 = cc in omega arith)
 test_accepts m k false e = refl
 
 -- in whatever order the verdicts stand
-pub line_passed : (k n f : ℕ) (cs : List Cluster) (r : Row) → line_verdict k n f cs r ≡ Accepted → Passed k n f cs r
+pub line_passed : (k n f : ℕ) (cs : List Cluster) (r : Row) → line_verdict k n f cs r ≡ accepted → Passed k n f cs r
 unfolding line_verdict
 line_passed k n f cs r e =
     let d : ℕ = due k n f in let l : List ℕ = r.chars in
@@ -117,7 +117,7 @@ line_passed k n f cs r e =
       alone = test_accepts 6 k (repeated d k cs l) (cc);
     }
 
-pub passed_line : (k n f : ℕ) (cs : List Cluster) (r : Row) → Passed k n f cs r → line_verdict k n f cs r ≡ Accepted
+pub passed_line : (k n f : ℕ) (cs : List Cluster) (r : Row) → Passed k n f cs r → line_verdict k n f cs r ≡ accepted
 unfolding line_verdict
 passed_line k n f cs r h = rw (h.well, h.kind, h.long, h.fields, h.below, h.alone)
 

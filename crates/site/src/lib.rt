@@ -4,9 +4,11 @@
 
 mod fields;
 mod line;
+mod refusal;
 
 pub use fields::{bad_parent, flow_verdict, header_verdict, untagged_verdict};
-pub use line::{due_at, line_entry, read_line};
+pub use line::{entry_of_line, read_line};
+pub use refusal::{Reason, Refusal};
 
 // The limits of docs/FORMATS.md.
 pub const MOST_CLUSTERS: u8 = 64;
@@ -18,9 +20,6 @@ pub const MOST_TAG: u8 = 64;
 pub const MOST_TIME: u32 = 1000000000;
 
 pub const MOST_DIGITS: usize = 136;
-
-// The place in a refusal that names no field.
-pub const NO_PLACE: u16 = 255;
 
 // A tag, kept whole: its bytes and how many of them count.
 #[derive(Clone, Copy)]
@@ -58,39 +57,53 @@ pub struct Site {
     pub flow_count: u8,
 }
 
-// What a line is: one of three records, or its refusal. A tag is kept beside, as the byte of the line
-// at which it begins and its length.
+impl Site {
+    ghost use Rattle.std.specs.Prelude.{◌≡◌, ◌≤◌, length, take};
+
+    // The clusters that count.
+    pub fn counted_clusters(&self) -> &[Cluster]
+        requires { self.now.cluster_count ≤ 64 }
+        ensures clusters { result.now ≡ take self.now.cluster_count self.now.clusters }
+        ensures count { length result.now ≡ self.now.cluster_count }
+    {
+        &self.clusters[..usize::from(self.cluster_count)]
+    }
+
+    // The flows that count.
+    pub fn counted_flows(&self) -> &[Flow]
+        requires { self.now.flow_count ≤ 128 }
+        ensures flows { result.now ≡ take self.now.flow_count self.now.flows }
+        ensures count { length result.now ≡ self.now.flow_count }
+    {
+        &self.flows[..usize::from(self.flow_count)]
+    }
+}
+
+// How many clusters and flows a site has, as its header says.
+#[derive(Clone, Copy, Debug, PartialEq, Eq)]
+pub struct Counts {
+    pub clusters: u8,
+    pub flows: u8,
+}
+
+// The kind of a line, by its first byte.
+#[derive(Clone, Copy, Debug, PartialEq, Eq)]
+pub enum Kind {
+    Header = 1,
+    Cluster = 2,
+    Flow = 3,
+}
+
+// What a line is that is taken. A tag is kept beside, as the byte of the line at which it begins and its
+// length.
 #[derive(Clone, Copy)]
 pub enum Entry {
-    Header {
-        clusters: u8,
-        flows: u8,
-    },
+    Header(Counts),
     Cluster {
         parent: u8,
         order: u8,
         place: usize,
         len: u8,
     },
-    Flow {
-        source: u8,
-        sink: u8,
-        period: u32,
-        deadline: u32,
-    },
-    Refused {
-        number: u8,
-        line: usize,
-        place: u16,
-    },
-}
-
-// What is said of a text, of a record or of records. A refusal has its number, its line and the byte of
-// the record at which the field stands that is out of range, NO_PLACE where it names no field. A place
-// has two bytes and not one, so that no other part of an answer is stored as it is: the compiler then
-// keeps both in registers.
-#[derive(Clone, Copy)]
-pub enum Verdict {
-    Accepted,
-    Refused { number: u8, line: usize, place: u16 },
+    Flow(Flow),
 }

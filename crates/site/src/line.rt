@@ -1,239 +1,151 @@
 // The line reader: what a line of a site's text is.
-ghost use Rattle.std.specs.Prelude.{◌≡◌, false, ◌+◌, ◌*◌, ◌≤◌, ◌<◌, length, replicate};
-ghost use Rattle.hexbytes.specs.Decoded.{Decoded};
-ghost use Rattle.hexline.specs.Digits.{number_at};
-ghost use Rattle.hexline.specs.Lines.{malformed};
+ghost use Rattle.std.specs.Prelude.{◌≡◌, true, ◌↔◌, ◌+◌, ◌*◌, ◌≤◌, length, IsNone, IfSome};
+ghost use Rattle.site.specs.Kinds.{first_byte, kind_number};
 ghost use Rattle.site.specs.Lines.{printable_line, FirstUnprintable};
 ghost use Rattle.site.specs.Table.{due, fields_of, entry_of};
 
 use crate::fields::{bad_parent, flow_verdict, header_verdict, untagged_verdict};
-use crate::{Entry, Flow, MOST_DIGITS, NO_PLACE, Verdict};
-use model::wide;
+use crate::{Counts, Entry, Flow, Kind, MOST_DIGITS, Reason, Refusal};
+use hexbytes::Line;
 
-// The kind due at line k after a header of so many clusters and flows: 1 header, 2 cluster, 3 flow,
-// and 0 where no line is due.
-pub fn due_at(k: usize, clusters: u8, flows: u8) -> u8
-    ensures { result ≡ due k clusters flows }
-{
-    if k <= 1 {
-        return 1;
+impl Kind {
+    // The first byte of its lines.
+    pub fn first_byte(self) -> u8
+        ensures { result ≡ first_byte self }
+    {
+        self as u8
     }
-    let last = 1 + wide(clusters);
-    if k <= last {
-        return 2;
+}
+
+impl Counts {
+    // The kind due at line k, after a header that says so; none where no line is due.
+    pub fn due_at(self, k: usize) -> Option<Kind>
+        ensures { kind_number result ≡ due k self.clusters self.flows }
+    {
+        let last = 1 + usize::from(self.clusters);
+        if k <= 1 {
+            Some(Kind::Header)
+        } else if k <= last {
+            Some(Kind::Cluster)
+        } else if k <= last + usize::from(self.flows) {
+            Some(Kind::Flow)
+        } else {
+            None
+        }
     }
-    if k <= last + wide(flows) {
-        return 3;
-    }
-    0
 }
 
 // Whether the tag bytes of a cluster line are all from 21 to 7E.
-fn printable_line(line: &[u8], bytes: &[u8; 68], len: u8) -> bool
-    requires { (Decoded line.now bytes.now) × (8 + 2 * len ≤ length line.now) }
-    ensures { result ≡ printable_line line.now len }
+fn is_printable(line: &Line, len: u8) -> bool
+    requires { 8 + 2 * len ≤ length line.now.chars.now }
+    ensures { result ≡ printable_line line.now.chars.now len }
 {
-    let n = wide(len);
     let mut all = true;
-    let mut i: usize = 0;
-    while i < n {
-        let b = hexbytes::byte_of(line, bytes, 4 + i);
+    for i in 0..usize::from(len) {
+        let b = line.byte(4 + i);
         all = all & !((b < 33) | (b > 126));
-        i += 1;
     }
     all
 }
 
-// Which of the tag bytes of a cluster line is the first that is not from 21 to 7E, counted from 0; one
-// of them is not. Only a line that is refused for it is walked so.
-fn first_unprintable(line: &[u8], bytes: &[u8; 68], len: u8) -> u16
-    requires { (Decoded line.now bytes.now) × (len ≤ 64) × (8 + 2 * len ≤ length line.now) × (printable_line line.now len ≡ false) }
-    ensures { FirstUnprintable line.now len result }
+// Which of the tag bytes of a cluster line is the first that is not from 21 to 7E, counted from 0. They are
+// tested as a whole first: only a line that is refused for one is walked.
+fn first_unprintable(line: &Line, len: u8) -> Option<u8>
+    requires { 8 + 2 * len ≤ length line.now.chars.now }
+    ensures none { IsNone result ↔ (printable_line line.now.chars.now len ≡ true) }
+    ensures some { IfSome result (FirstUnprintable line.now.chars.now len) }
 {
-    let mut i: u8 = 0;
-    let mut b = hexbytes::byte_of(line, bytes, 4);
-    while !((b < 33) | (b > 126)) {
-        i += 1;
-        b = hexbytes::byte_of(line, bytes, 4 + wide(i));
+    if is_printable(line, len) {
+        return None;
     }
-    i as u16
+    for i in 0..len {
+        let b = line.byte(4 + usize::from(i));
+        if (b < 33) | (b > 126) {
+            return Some(i);
+        }
+    }
+    None
 }
 
-fn value_of(b: u8) -> u32
-    ensures { (result ≡ b) × (result < 256) }
+fn header_line(line: &Line, k: usize) -> Result<Entry, Refusal>
+    ensures { result ≡ fields_of 1 k 0 line.now.chars.now }
 {
-    b as u32
+    if line.len() != 4 {
+        return Err(Reason::WrongLength.in_line(k));
+    }
+    let clusters = line.byte(2);
+    let flows = line.byte(3);
+    header_verdict(k, line.byte(1), clusters, flows)?;
+    Ok(Entry::Header(Counts { clusters, flows }))
 }
 
-// The four bytes from byte k of a line on, as a number.
-fn time_of(line: &[u8], bytes: &[u8; 68], k: usize) -> u32
-    requires { (Decoded line.now bytes.now) × (2 * (k + 4) ≤ length line.now) }
-    ensures { result ≡ number_at line.now k 4 }
+fn cluster_line(line: &Line, k: usize) -> Result<Entry, Refusal>
+    requires { 2 ≤ k }
+    ensures { result ≡ fields_of 2 k 0 line.now.chars.now }
 {
-    ((value_of(hexbytes::byte_of(line, bytes, k)) * 256
-        + value_of(hexbytes::byte_of(line, bytes, k + 1)))
-        * 256
-        + value_of(hexbytes::byte_of(line, bytes, k + 2)))
-        * 256
-        + value_of(hexbytes::byte_of(line, bytes, k + 3))
-}
-
-// A refusal of line k that names no field.
-fn refusal(number: u8, k: usize) -> Entry
-    ensures { result ≡ Entry.Refused number k 255 }
-{
-    Entry::Refused {
-        number,
-        line: k,
-        place: NO_PLACE,
+    if line.len() < 4 {
+        return Err(Reason::WrongLength.in_line(k));
     }
-}
-
-fn header_line(line: &[u8], bytes: &[u8; 68], k: usize) -> Entry
-    requires { Decoded line.now bytes.now }
-    ensures { result ≡ fields_of 1 k 0 line.now }
-{
-    if line.len() / 2 != 4 {
-        return refusal(3, k);
+    let len = line.byte(3);
+    if line.len() != 4 + usize::from(len) {
+        return Err(Reason::WrongLength.in_line(k));
     }
-    let version = hexbytes::byte_of(line, bytes, 1);
-    let clusters = hexbytes::byte_of(line, bytes, 2);
-    let flows = hexbytes::byte_of(line, bytes, 3);
-    let fields = header_verdict(k, version, clusters, flows);
-    if let Verdict::Refused {
-        number,
-        line,
-        place,
-    } = fields
-    {
-        return Entry::Refused {
-            number,
-            line,
-            place,
-        };
+    let order = line.byte(2);
+    untagged_verdict(k, order, len)?;
+    if let Some(i) = first_unprintable(line, len) {
+        return Err(Reason::BadTag.in_field(k, 4 + i));
     }
-    Entry::Header { clusters, flows }
-}
-
-fn cluster_line(line: &[u8], bytes: &[u8; 68], k: usize) -> Entry
-    requires { (Decoded line.now bytes.now) × (2 ≤ k) }
-    ensures { result ≡ fields_of 2 k 0 line.now }
-{
-    if line.len() < 8 {
-        return refusal(3, k);
-    }
-    let len = hexbytes::byte_of(line, bytes, 3);
-    if line.len() / 2 != 4 + wide(len) {
-        return refusal(3, k);
-    }
-    let order = hexbytes::byte_of(line, bytes, 2);
-    let fields = untagged_verdict(k, order, len);
-    if let Verdict::Refused {
-        number,
-        line,
-        place,
-    } = fields
-    {
-        return Entry::Refused {
-            number,
-            line,
-            place,
-        };
-    }
-    if !printable_line(line, bytes, len) {
-        return Entry::Refused {
-            number: 12,
-            line: k,
-            place: 4 + first_unprintable(line, bytes, len),
-        };
-    }
-    let parent = hexbytes::byte_of(line, bytes, 1);
+    let parent = line.byte(1);
     if bad_parent(k - 2, parent) {
-        return refusal(5, k);
+        return Err(Reason::WrongParent.in_line(k));
     }
-    Entry::Cluster {
+    Ok(Entry::Cluster {
         parent,
         order,
         place: 4,
         len,
-    }
+    })
 }
 
-fn flow_line(line: &[u8], bytes: &[u8; 68], k: usize, clusters: u8) -> Entry
-    requires { Decoded line.now bytes.now }
-    ensures { result ≡ fields_of 3 k clusters line.now }
+fn flow_line(line: &Line, k: usize, clusters: u8) -> Result<Entry, Refusal>
+    ensures { result ≡ fields_of 3 k clusters line.now.chars.now }
 {
-    if line.len() / 2 != 11 {
-        return refusal(3, k);
+    if line.len() != 11 {
+        return Err(Reason::WrongLength.in_line(k));
     }
-    let source = hexbytes::byte_of(line, bytes, 1);
-    let sink = hexbytes::byte_of(line, bytes, 2);
-    let period = time_of(line, bytes, 3);
-    let deadline = time_of(line, bytes, 7);
     let flow = Flow {
-        source: source as u16,
-        sink: sink as u16,
-        period,
-        deadline,
+        source: u16::from(line.byte(1)),
+        sink: u16::from(line.byte(2)),
+        period: line.four_bytes(3),
+        deadline: line.four_bytes(7),
     };
-    let fields = flow_verdict(k, clusters, flow);
-    if let Verdict::Refused {
-        number,
-        line,
-        place,
-    } = fields
-    {
-        return Entry::Refused {
-            number,
-            line,
-            place,
-        };
+    flow_verdict(k, clusters, flow)?;
+    Ok(Entry::Flow(flow))
+}
+
+// What a well-formed line is as line k, after a header with these counts.
+pub fn entry_of_line(line: &Line, k: usize, counts: Counts) -> Result<Entry, Refusal>
+    ensures { result ≡ entry_of k counts.clusters counts.flows (record { chars = line.now.chars.now; ended = true }) }
+{
+    let Some(kind) = counts.due_at(k) else {
+        return Err(Reason::WrongKind.in_line(k));
+    };
+    if line.byte(0) != kind.first_byte() {
+        return Err(Reason::WrongKind.in_line(k));
     }
-    Entry::Flow {
-        source,
-        sink,
-        period,
-        deadline,
+    match kind {
+        Kind::Header => header_line(line, k),
+        Kind::Cluster => cluster_line(line, k),
+        Kind::Flow => flow_line(line, k, counts.clusters),
     }
 }
 
-// What line k is, where the header says so many clusters and flows; `ended` says whether an LF ends
-// it. The tests stand in the order in which they decide. Where the line is well formed, its
-// bytes stand in `bytes`.
-pub fn line_entry(
-    line: &[u8],
-    bytes: &mut [u8; 68],
-    ended: bool,
-    k: usize,
-    clusters: u8,
-    flows: u8,
-) -> Entry
-    requires { bytes.old ≡ replicate 68 0 }
-    ensures { (result ≡ entry_of k clusters flows (record { chars = line.now; ended = ended })) × (malformed 136 (record { chars = line.now; ended = ended }) ≡ false → Decoded line.now bytes.new) }
+// What any line is as line k; `ended` says whether an LF ends it.
+pub fn read_line(chars: &[u8], ended: bool, k: usize, counts: Counts) -> Result<Entry, Refusal>
+    ensures { result ≡ entry_of k counts.clusters counts.flows (record { chars = chars.now; ended = ended }) }
 {
-    if hexbytes::is_malformed(line, ended, MOST_DIGITS, bytes) {
-        return refusal(1, k);
-    }
-    let kind = due_at(k, clusters, flows);
-    if kind == 0 {
-        return refusal(2, k);
-    }
-    if hexbytes::byte_of(line, bytes, 0) != kind {
-        return refusal(2, k);
-    }
-    if kind == 1 {
-        return header_line(line, bytes, k);
-    }
-    if kind == 2 {
-        return cluster_line(line, bytes, k);
-    }
-    flow_line(line, bytes, k, clusters)
-}
-
-// The same, for a caller who has no use for the line's bytes.
-pub fn read_line(line: &[u8], ended: bool, k: usize, clusters: u8, flows: u8) -> Entry
-    ensures { result ≡ entry_of k clusters flows (record { chars = line.now; ended = ended }) }
-{
-    let mut bytes = [0u8; 68];
-    line_entry(line, &mut bytes, ended, k, clusters, flows)
+    let Some(line) = Line::decode(chars, ended, MOST_DIGITS) else {
+        return Err(Reason::Malformed.in_line(k));
+    };
+    entry_of_line(&line, k, counts)
 }

@@ -1,18 +1,15 @@
 -- The text of a site's records (docs/FORMATS.md, "Site text"), and what the writer answers and leaves in the room ("Refusal numbers": those of
 -- the check, then 9).
-use Rattle.std.specs.Prelude.{cond, List, [], ◌∷◌, ◌++◌, ℕ, length, take, leb}
+use Rattle.std.specs.Prelude.{cond, List, [], ◌∷◌, ◌++◌, ℕ, Result, Ok, Err, length, take, leb}
 use Rattle.hexline.specs.Digits.{field_bytes, line_of}
 use Rattle.hexroom.specs.Listing.{lines_of}
 use Rattle.hexroom.specs.Room.{handed}
 use Rattle.site.specs.declared.Cluster.{Cluster}
 use Rattle.site.specs.declared.Flow.{Flow}
 use Rattle.site.specs.declared.Site.{Site}
-use Rattle.site.specs.declared.Verdict.{Verdict}
-use Rattle.site.specs.declared.Verdict.TheVariants.{Accepted, Refused}
-use Rattle.site.specs.Fields.{no_place}
+use Rattle.site.specs.Refusals.{Verdict}
+use Rattle.site.specs.Told.{Told, refusal, no_place}
 use Rattle.site.specs.Answers.{Answer, gives, refuses, short_room}
-use Rattle.writer.specs.declared.Written.{Written}
-use Rattle.writer.specs.declared.Written.TheVariants.{Length, Refused as RefusedWriting}
 
 -- 01, version 01, number of clusters, number of flows
 abbrev pub header_widths : List ℕ
@@ -41,21 +38,25 @@ text_of s =
     line_of (header_bytes s.cluster_count s.flow_count)
     ++ (lines_of cluster_bytes (take s.cluster_count s.clusters) ++ lines_of flow_bytes (take s.flow_count s.flows))
 
--- what the writer's answer says: how long the text is
+-- the writer's answer: how long the text is, or the refusal
+abbrev pub Written : Type 0
+Written = Result ℕ Told
+
+-- what it says
 abbrev pub written_says : Written → Answer
-written_says (Length n) = gives (n ∷ [])
-written_says (RefusedWriting number line place) = refuses number line place
+written_says (Ok n) = gives (n ∷ [])
+written_says (Err (refusal number line place)) = refuses number line place
 
 -- what is answered in a room of so many bytes where the text is the answer
 abbrev pub fitting : List ℕ → ℕ → Written
-fitting text room = cond (leb (length text) room) (Length (length text)) (RefusedWriting short_room 0 no_place)
+fitting text room = cond (leb (length text) room) (Ok (length text)) (Err (refusal short_room 0 no_place))
 
 -- the writer's answer: the check's refusal, else 9 where the room is shorter than the text, else the text's length
 unfoldable pub written : Verdict → List ℕ → ℕ → Written
-written (Refused m k p) text room = RefusedWriting m k p
-written Accepted text room = fitting text room
+written (Err t) text room = Err t
+written (Ok _) text room = fitting text room
 
 -- the room after it: a refusal leaves it as it was
 unfoldable pub room_after : Verdict → List ℕ → List ℕ → List ℕ
-room_after (Refused m k p) text room = room
-room_after Accepted text room = handed text room
+room_after (Err t) text room = room
+room_after (Ok _) text room = handed text room

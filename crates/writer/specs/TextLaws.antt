@@ -11,6 +11,7 @@ use Rattle.hexroom.specs.Room.{put, put-append, line-length}
 use Rattle.site.specs.declared.Cluster.{Cluster}
 use Rattle.site.specs.declared.Flow.{Flow}
 use Rattle.site.specs.declared.Site.{Site}
+use Rattle.site.specs.declared.Tag.{Tag}
 use Rattle.writer.specs.Text.{cluster_widths, header_bytes, cluster_bytes, flow_bytes, text_of}
 
 pub header-length : (n f : ℕ) → length (line_of (header_bytes n f)) ≡ 9
@@ -21,21 +22,24 @@ pub flow-length : (f : Flow) → length (line_of (flow_bytes f)) ≡ 23
 unfolding flow_bytes field_bytes number_bytes
 flow-length f = line-length (flow_bytes f)
 
+pub cluster-size : (c : Cluster) → length (line_of (cluster_bytes c)) ≡ 9 + 2 * length (take c.tag.len c.tag.bytes)
+unfolding cluster_bytes field_bytes number_bytes
+cluster-size c = line-length (cluster_bytes c) ∙ omega arith
+
+pub tag_counted : (t : Tag) (n : ℕ) → length t.bytes ≡ 64 → n ≡ min t.len 64 → take n t.bytes ≡ take t.len t.bytes
+tag_counted t n whole counted = elim (decide (leb t.len 64)) [
+  | inl p ↦ let h = leb-true t.len 64 p in let q : n ≡ t.len = omega arith in rw q
+  | inr p ↦ let h = leb-false t.len 64 p in take_all n t.bytes (omega arith) ∙ sym (take_all t.len t.bytes (omega arith))
+]
+
 -- a cluster's line, where n bytes of the tag count
 module _ (c : Cluster) (n : ℕ) (whole : length c.tag.bytes ≡ 64) (counted : n ≡ min c.tag.len 64) where
-  tag_counted : take n c.tag.bytes ≡ take c.tag.len c.tag.bytes
-  tag_counted = elim (decide (leb c.tag.len 64)) [
-    | inl p ↦ let h = leb-true c.tag.len 64 p in let q : n ≡ c.tag.len = omega arith in rw q
-    | inr p ↦ let h = leb-false c.tag.len 64 p in take_all n c.tag.bytes (omega arith) ∙ sym (take_all c.tag.len c.tag.bytes (omega arith))
-  ]
-
   pub cluster_counted : field_bytes cluster_widths (2 ∷ c.parent ∷ c.order ∷ c.tag.len ∷ []) ++ take n c.tag.bytes ≡ cluster_bytes c
   unfolding cluster_bytes
-  cluster_counted = rw tag_counted
+  cluster_counted = rw (tag_counted c.tag n whole counted)
 
   pub cluster-length : length (line_of (cluster_bytes c)) ≡ 9 + 2 * n
-  unfolding cluster_bytes field_bytes number_bytes
-  cluster-length = line-length (cluster_bytes c) ∙ omega (arith, length-take c.tag.len c.tag.bytes)
+  cluster-length = cluster-size c ∙ omega (arith, length-take c.tag.len c.tag.bytes)
 
 each_flow_length : (fs : List Flow) → length (lines_of flow_bytes fs) ≡ 23 * length fs
 unfolding lines_of

@@ -1,7 +1,7 @@
 // The site writer: the text of a site's records, into a room that the caller lends.
 #![tactic(auto)]
 
-ghost use Rattle.std.specs.Prelude.{◌≡◌, ◌+◌, ◌*◌, ◌≤◌, length, take};
+ghost use Rattle.std.specs.Prelude.{◌≡◌, List, ℕ, ◌+◌, ◌*◌, ◌≤◌, length, take};
 ghost use Rattle.hexline.specs.Digits.{line_of};
 ghost use Rattle.hexroom.specs.Listing.{lines_of};
 ghost use Rattle.hexroom.specs.Room.{put, handed};
@@ -9,24 +9,8 @@ ghost use Rattle.records.specs.Check.{checked};
 ghost use Rattle.writer.specs.Text.{header_bytes, cluster_bytes, flow_bytes, text_of, fitting, written, room_after};
 
 use hexroom::Field;
-use site::{Cluster, Flow, NO_PLACE, Site, Verdict};
-
-// What the writer answers: how many bytes of the room the text fills, or the refusal.
-#[derive(Drop)]
-pub enum Written {
-    Length(usize),
-    Refused { number: u8, line: usize, place: u16 },
-}
-
-fn refused(number: u8, line: usize, place: u16) -> Written
-    ensures { result ≡ Written.Refused number line place }
-{
-    Written::Refused {
-        number,
-        line,
-        place,
-    }
-}
+use records::Accepted;
+use site::{Cluster, Flow, Reason, Refusal, Site, Tag};
 
 // Writes the header line at the room's start, and gives the place behind it.
 fn put_header(room: &mut [u8], clusters: u8, flows: u8) -> usize
@@ -42,131 +26,112 @@ fn put_header(room: &mut [u8], clusters: u8, flows: u8) -> usize
     hexroom::put_line(room, 0, &fields, b"")
 }
 
-// Writes the line of a cluster at `at`, and gives the place behind it.
-fn put_cluster(room: &mut [u8], at: usize, c: Cluster) -> usize
-    requires { at + length (line_of (cluster_bytes c)) ≤ length room.old }
-    ensures { (result ≡ at + length (line_of (cluster_bytes c))) × (room.new ≡ put room.old at (line_of (cluster_bytes c))) }
+// The bytes of a tag that count.
+fn counted_bytes(tag: &Tag) -> &[u8]
+    ensures { (result.now ≡ take tag.now.len tag.now.bytes) × (length result.now ≤ 64) }
 {
-    let tag = c.tag;
-    let bytes = tag.bytes;
-    let n = tags::counted(tag.len);
-    let fields = [
-        Field::byte(2),
-        Field::byte(c.parent),
-        Field::byte(c.order),
-        Field::byte(tag.len),
-    ];
-    hexroom::put_line(room, at, &fields, &bytes[..n])
+    &tag.bytes[..tags::counted(tag.len)]
 }
 
-// Writes the line of a flow at `at`, and gives the place behind it.
-fn put_flow(room: &mut [u8], at: usize, f: Flow) -> usize
-    requires { at + length (line_of (flow_bytes f)) ≤ length room.old }
-    ensures { (result ≡ at + length (line_of (flow_bytes f))) × (room.new ≡ put room.old at (line_of (flow_bytes f))) }
-{
-    let fields = [
-        Field::byte(3),
-        Field::new(1, u64::from(f.source)),
-        Field::new(1, u64::from(f.sink)),
-        Field::new(4, u64::from(f.period)),
-        Field::new(4, u64::from(f.deadline)),
-    ];
-    hexroom::put_line(room, at, &fields, b"")
+// A record with a line of its own.
+trait Row {
+    // The bytes of its line.
+    ghost bytes: { Self → List ℕ };
+
+    // How many bytes of the text its line takes.
+    fn size(&self) -> usize
+        ensures { (result ≡ length (line_of (bytes self.now))) × (result ≤ 137) };
+
+    // Writes its line at `at`, and gives the place behind it.
+    fn put_line(&self, room: &mut [u8], at: usize) -> usize
+        requires { at + length (line_of (bytes self.now)) ≤ length room.old }
+        ensures { (result ≡ at + length (line_of (bytes self.now))) × (room.new ≡ put room.old at (line_of (bytes self.now))) };
 }
 
-// Writes the lines of the first n clusters at `at`, and gives the place behind them.
-fn put_clusters(room: &mut [u8], at: usize, clusters: [Cluster; 64], n: usize) -> usize
-    requires { (n ≤ 64) × (at + length (lines_of cluster_bytes (take n clusters)) ≤ length room.old) }
-    ensures { (result ≡ at + length (lines_of cluster_bytes (take n clusters))) × (room.new ≡ put room.old at (lines_of cluster_bytes (take n clusters))) }
-{
-    let mut to = at;
-    let mut i: usize = 0;
-    while i < n {
-        let cluster = clusters[i];
-        to = put_cluster(room, to, cluster);
-        i += 1;
+impl Row for Cluster {
+    ghost bytes = { cluster_bytes };
+
+    fn size(&self) -> usize {
+        9 + 2 * counted_bytes(&self.tag).len()
     }
-    to
-}
 
-// Writes the lines of the first n flows at `at`, and gives the place behind them.
-fn put_flows(room: &mut [u8], at: usize, flows: [Flow; 128], n: usize) -> usize
-    requires { (n ≤ 128) × (at + length (lines_of flow_bytes (take n flows)) ≤ length room.old) }
-    ensures { (result ≡ at + length (lines_of flow_bytes (take n flows))) × (room.new ≡ put room.old at (lines_of flow_bytes (take n flows))) }
-{
-    let mut to = at;
-    let mut i: usize = 0;
-    while i < n {
-        let flow = flows[i];
-        to = put_flow(room, to, flow);
-        i += 1;
+    fn put_line(&self, room: &mut [u8], at: usize) -> usize {
+        let fields = [
+            Field::byte(2),
+            Field::byte(self.parent),
+            Field::byte(self.order),
+            Field::byte(self.tag.len),
+        ];
+        hexroom::put_line(room, at, &fields, counted_bytes(&self.tag))
     }
-    to
 }
 
-// How many bytes the line of a cluster takes.
-fn cluster_size(c: Cluster) -> usize
-    ensures { (result ≡ length (line_of (cluster_bytes c))) × (result ≤ 137) }
-{
-    9 + 2 * tags::counted(c.tag.len)
+impl Row for Flow {
+    ghost bytes = { flow_bytes };
+
+    fn size(&self) -> usize {
+        23
+    }
+
+    fn put_line(&self, room: &mut [u8], at: usize) -> usize {
+        let fields = [
+            Field::byte(3),
+            Field::new(1, u64::from(self.source)),
+            Field::new(1, u64::from(self.sink)),
+            Field::new(4, u64::from(self.period)),
+            Field::new(4, u64::from(self.deadline)),
+        ];
+        hexroom::put_line(room, at, &fields, b"")
+    }
 }
 
-// How many bytes the lines of the first n clusters take.
-fn clusters_size(clusters: [Cluster; 64], n: usize) -> usize
-    requires { n ≤ 64 }
-    ensures { (result ≡ length (lines_of cluster_bytes (take n clusters))) × (result ≤ 137 * n) }
+// How many bytes the lines of rows take.
+fn size_of<R: Row>(rows: &[R]) -> usize
+    requires { length rows.now ≤ 128 }
+    ensures { (result ≡ length (lines_of R.bytes rows.now)) × (result ≤ 137 * length rows.now) }
 {
     let mut size: usize = 0;
-    let mut i: usize = 0;
-    while i < n {
-        let cluster = clusters[i];
-        size += cluster_size(cluster);
-        i += 1;
+    for row in rows {
+        size += row.size();
     }
     size
 }
 
-// How many bytes the lines of the first n flows take.
-fn flows_size(flows: [Flow; 128], n: usize) -> usize
-    requires { n ≤ 128 }
-    ensures { (result ≡ length (lines_of flow_bytes (take n flows))) × (result ≤ 23 * n) }
+// Writes the lines of rows at `at`, and gives the place behind them.
+fn put_rows<R: Row>(room: &mut [u8], at: usize, rows: &[R]) -> usize
+    requires { at + length (lines_of R.bytes rows.now) ≤ length room.old }
+    ensures { (result ≡ at + length (lines_of R.bytes rows.now)) × (room.new ≡ put room.old at (lines_of R.bytes rows.now)) }
 {
-    23 * n
+    let mut to = at;
+    for row in rows {
+        to = row.put_line(room, to);
+    }
+    to
 }
 
 // Writes the text of records that were accepted, or refuses by 9 before the first byte where the
 // room is shorter than the text.
-fn put_site(room: &mut [u8], site: Site) -> Written
-    requires { (site.cluster_count ≤ 64) × (site.flow_count ≤ 128) }
-    ensures { (result ≡ fitting (text_of site) (length room.old)) × (room.new ≡ handed (text_of site) room.old) }
+fn put_site(room: &mut [u8], records: Accepted) -> Result<usize, Refusal>
+    ensures { (result ≡ fitting (text_of records.entry.site.now) (length room.old)) × (room.new ≡ handed (text_of records.entry.site.now) room.old) }
 {
-    let n = site.cluster_count as usize;
-    let f = site.flow_count as usize;
-    let clusters = site.clusters;
-    let flows = site.flows;
-    let size = 9 + clusters_size(clusters, n) + flows_size(flows, f);
+    let clusters = records.clusters();
+    let flows = records.flows();
+    let size = 9 + size_of(clusters) + size_of(flows);
     if room.len() < size {
-        return refused(9, 0, NO_PLACE);
+        return Err(Reason::ShortRoom.in_line(0));
     }
-    let behind_header = put_header(room, site.cluster_count, site.flow_count);
-    let behind_clusters = put_clusters(room, behind_header, clusters, n);
-    let end = put_flows(room, behind_clusters, flows, f);
-    Written::Length(end)
+    let behind_header = put_header(room, records.site.cluster_count, records.site.flow_count);
+    let behind_clusters = put_rows(room, behind_header, clusters);
+    Ok(put_rows(room, behind_clusters, flows))
 }
 
 // Writes the text of a site's records into the room, and answers its length. Records that `check`
 // refuses are refused alike, and a room shorter than the text by 9 with line 0: a refusal leaves the
 // room as it was. The bytes behind the text stay in any case.
-pub fn write(site: Site, room: &mut [u8]) -> Written
-    ensures { (result ≡ written (checked site) (text_of site) (length room.old)) × (room.new ≡ room_after (checked site) (text_of site) room.old) }
+#[tactic(auto, unfolding(crate::specs::Text::written, crate::specs::Text::room_after))]
+pub fn write(site: &Site, room: &mut [u8]) -> Result<usize, Refusal>
+    ensures { (result ≡ written (checked site.now) (text_of site.now) (length room.old)) × (room.new ≡ room_after (checked site.now) (text_of site.now) room.old) }
 {
-    let verdict = records::check(site);
-    match verdict {
-        Verdict::Refused {
-            number,
-            line,
-            place,
-        } => refused(number, line, place),
-        Verdict::Accepted => put_site(room, site),
-    }
+    records::check(site)?;
+    put_site(room, Accepted { site })
 }

@@ -15,10 +15,10 @@ copied text room fits = rw (le-leb (length text) (length room) fits)
 pub returns-then-room-text : goal.returns-then-room-text
 returns-then-room-text c = let args = c.args in
     let short : length args.room.now < length args.text.now = omega arith in
-    (rw (lt-leb _ _ short), sym (short_handed args.room.now args.text.now short))
+    record { answer = rw (lt-leb _ _ short, c.in_line.ensures); after = sym (short_handed args.room.now args.text.now short) }
 
 pub returns : goal.returns
 returns c =
     let text = c.args.text.now in
     let room = c.args.room.now in
-    (rw (le-leb (length text) (length room) c.if-room-text.false), rw c.copy_from_slice.ensures.after (copied text room c.if-room-text.false))
+    record { answer = rw (le-leb (length text) (length room) c.if-room-text.false); after = rw c.copy_from_slice.ensures.after (copied text room c.if-room-text.false) }

@@ -1,194 +1,136 @@
 -- One that is broken decides at once, any other leaves it to those behind it, and where none is left all hold. The top of a path is not deeper than its sink, so the
 -- difference of their depths is there.
-use mathlib.Core.Path.{◌≡◌, sym, ap, ◌∙◌}
-use mathlib.Core.Bool.{Bool, true, false}
-use mathlib.Core.List.{List}
-use Prim.Native.Nat.{ℕ, ◌-◌, ◌≤◌, ◌<◌}
-use native.Mathlib.Omega.{arith}
-use lib.ListN.{length, get_or, take, length-map, get_or-map}
-use lib.Seq.{take_all}
+use Rattle.std.specs.Prelude.{◌≡◌, true, false, List, map, ℕ, ◌+◌, ◌-◌, ◌≤◌, ◌<◌, length, get_or, take, drop}
+use Rattle.std.proofs.Common.{sym, ap, ◌∙◌, arith}
+use Rattle.std.proofs.Math.ListN.{length-map, get_or-map}
+use Rattle.std.proofs.Math.Seq.{take_all}
 use Rattle.model.specs.Constraints.{Constraint, descent, flow_constraint, flow_constraints}
-use Rattle.model.specs.Counting.{at, values}
+use Rattle.model.specs.Counting.{at}
 use Rattle.model.specs.CrossingLaws.{allowed_divides}
-use Rattle.model.specs.Relaxing.{okay, depths as depths_of}
+use Rattle.model.specs.Relaxing.{okay, all_okay}
 use Rattle.model.specs.RelaxingLaws.{okay_if, broken_if, broken_decides, others_decide, none_broken, depths-length}
 use Rattle.model.specs.Sites as model
-use Rattle.model.specs.Trees.{Tree, depth, top as top_of}
+use Rattle.model.specs.Trees.{top as top_of}
 use Rattle.plantext.specs.PlanText.{model_flow, site_of}
-use Rattle.records.specs.Check.{checked}
 use Rattle.site.specs.declared.Flow.{Flow}
 use Rattle.site.specs.declared.Site.{Site}
-use Rattle.site.specs.declared.Verdict.TheVariants.{Accepted}
 use Rattle.site.specs.Records.{no_flow}
-use Rattle.figures.specs.Numbers.{descent_in}
-use Rattle.figures.specs.NumberLaws.{top_here, descent_here}
-use Rattle.figures.specs.SiteLaws.{counts_bounded, clusters_counted, flows_counted, flow_at, ends_there, describes_sound}
+use Rattle.figures.specs.SiteLaws.{clusters_counted}
+use Rattle.figures.specs.Climbs.{flow_ends, top_there, down}
 use Rattle.deadlines.proofs.constraints_hold.Goals as goal
-use Rattle.deadlines.proofs.constraints_hold.Goals.{After-top-top, In-loop-j}
+use Rattle.deadlines.proofs.constraints_hold.Goals.{After-top-top}
 
--- a site that is accepted, and an order
-module _ (site : Site) (accepted : checked site ≡ Accepted) (order : ℕ) where
-  abbrev described : model.Site
-  described = site_of site
-
-  -- the constraint of a flow, and those of all
-  abbrev constraint_of : model.Flow → Constraint
-  constraint_of = flow_constraint described order
+-- the constraints of the flows that count, each at its flow's place
+module _ (s : Site) (order : ℕ) (flows : List Flow) (counts : flows ≡ take s.flow_count s.flows) where
+  abbrev constraint_of : Flow → Constraint
+  constraint_of f = flow_constraint (site_of s) order (model_flow f)
 
   abbrev all : List Constraint
-  all = flow_constraints described order
+  all = flow_constraints (site_of s) order
 
-  number : length all ≡ site.flow_count
-  number = length-map described.flows constraint_of ∙ flows_counted site accepted
+  described : (site_of s).flows ≡ map model_flow flows
+  unfolding site_of
+  described = ap (map model_flow) (sym counts)
 
-  small : model.size described ≤ 64
-  small = omega (arith, clusters_counted site accepted, (counts_bounded site accepted).1)
+  number : length all ≡ length flows
+  number = length-map (site_of s).flows (flow_constraint (site_of s) order) ∙ ap (λ (fs : List model.Flow). length fs) described ∙ length-map flows model_flow
 
-  tree : Tree (model.parent described) (model.size described)
-  tree = (describes_sound site accepted).tree
+  place : (j : ℕ) → get_or all j (constraint_of no_flow) ≡ constraint_of (get_or flows j no_flow)
+  place j =
+      get_or-map (flow_constraint (site_of s) order) (site_of s).flows j (model_flow no_flow)
+      ∙ ap (λ (fs : List model.Flow). flow_constraint (site_of s) order (get_or fs j (model_flow no_flow))) described
+      ∙ ap (flow_constraint (site_of s) order) (get_or-map model_flow flows j no_flow)
 
-  -- a flow at its place: both its ends are clusters
-  module _ (j : ℕ) (running : j < site.flow_count) where
-    abbrev flow : Flow
-    flow = get_or site.flows j no_flow
+  module _ (d : List ℕ) (j : ℕ) (running : j < length flows) where
+    one_decides : okay (constraint_of (get_or flows j no_flow)) d ≡ false → all_okay (drop j all) d ≡ false
+    one_decides e = broken_decides all d j (constraint_of no_flow) (omega (arith, number)) (ap (λ (k : Constraint). okay k d) (place j) ∙ e)
 
-    in_array : j < 128
-    in_array = omega (arith, running, (counts_bounded site accepted).2)
+    rest_decides : okay (constraint_of (get_or flows j no_flow)) d ≡ true → all_okay (drop j all) d ≡ all_okay (drop (j + 1) all) d
+    rest_decides e = others_decide all d j (constraint_of no_flow) (omega (arith, number)) (ap (λ (k : Constraint). okay k d) (place j) ∙ e)
 
-    ends : (flow.source < model.size described) × (flow.sink < model.size described)
-    ends =
-        let there = ends_there site accepted j running in
-        let clusters = clusters_counted site accepted in
-        (omega (arith, there.0, clusters), omega (arith, there.1, clusters))
+-- in a turn, once the top of the flow's path is known
+module _ (c : After-top-top) where
+  abbrev site : Site
+  site = c.args.site.site.now
 
-    abbrev constraint : Constraint
-    constraint = constraint_of (model_flow flow)
+  abbrev flows : List Flow
+  flows = c.flows-flow-items.result.now
 
-    abbrev none : Constraint
-    none = constraint_of (model_flow no_flow)
+  abbrev flow : Flow
+  flow = get_or flows c.loop-flow.flow-index no_flow
 
-    is_one : j < length all
-    is_one = omega (arith, running, number)
+  abbrev levels : List ℕ
+  levels = c.args.depths.now
 
-    -- the constraint of the flow is the one at its place
-    decides : (counts : List ℕ) (b : Bool) → okay constraint counts ≡ b → okay (get_or all j none) counts ≡ b
-    decides counts b e =
-        let at_place = get_or-map constraint_of described.flows j (model_flow no_flow) in
-        let own = flow_at site accepted j running in
-        ap (λ (k : Constraint). okay k counts) (at_place ∙ ap constraint_of own) ∙ e
+  -- it is not deeper than the sink, by the flow's descent
+  falls : ((c.top-top.result < site.cluster_count) × (at levels c.top-top.result ≤ at levels c.from-sink.result)) × (at levels c.from-sink.result - at levels c.top-top.result ≡ descent (site_of site) (model_flow flow))
+  falls =
+      let accepted = c.args.site.accepted in
+      let value = c.requires.depths_value in
+      let there = flow_ends site accepted flows c.flows-flow-items.ensures.flows c.flows-flow-items.ensures.count c.loop-flow.flow-index c.loop-flow-test.true in
+      let number : length levels ≡ site.cluster_count = ap length value.0 ∙ depths-length (site_of site) ∙ clusters_counted site accepted in
+      let deep = take_all (length levels) levels (omega arith) ∙ value.0 in
+      let parent = model.parent (site_of site) in
+      let tops = c.top-top.ensures parent value.2 ∙ ap (λ (a : ℕ). top_of parent a c.from-sink.result) c.from-source.ensures ∙ ap (top_of parent flow.source) c.from-sink.ensures in
+      let above = top_there site accepted _ number levels deep flow (there.0, there.1) _ tops in
+      let sink = ap (at levels) c.from-sink.ensures in
+      ((above.0, omega (arith, above.1, sink)), ap (λ (d : ℕ). d - at levels c.top-top.result) sink ∙ down site accepted _ number levels deep flow (there.0, there.1) _ tops)
 
-  -- the clusters' depths
-  module _ (levels : List ℕ) (value : levels ≡ depths_of described) where
-    levels_number : length levels ≡ model.size described
-    levels_number = ap length value ∙ depths-length described
-
-    levels_are : take (model.size described) levels ≡ values (depth (model.parent described)) 0 (model.size described)
-    unfolding depths_of
-    levels_are = take_all (model.size described) levels (omega (arith, levels_number)) ∙ value
-
-    -- and the top of a flow's path
-    module _ (j : ℕ) (running : j < site.flow_count) (top : ℕ)
-        (tops : top ≡ top_of (model.parent described) (get_or site.flows j no_flow).source (get_or site.flows j no_flow).sink) where
-      top_there : (top < model.size described) × (at levels top ≤ at levels (get_or site.flows j no_flow).sink)
-      top_there = top_here described.parents levels tree levels_are (get_or site.flows j no_flow) _ (ends j running).0 (ends j running).1 tops
-
-      down : at levels (get_or site.flows j no_flow).sink - at levels top ≡ descent described (model_flow (get_or site.flows j no_flow))
-      unfolding descent descent_in
-      down = descent_here described.parents levels tree levels_are (get_or site.flows j no_flow) _ (ends j running).0 (ends j running).1 tops
-
--- in a turn
-turns : (c : In-loop-j) → c.loop-j.j < c.args.site.flow_count
-turns c = omega (arith, c.loop-j-test.true, c.counted.ensures.0)
-
--- once the top of the flow's path is known
-top_value : (c : After-top-top) → c.top-top.result ≡ top_of (model.parent (site_of c.args.site)) (get_or c.args.site.flows c.loop-j.j no_flow).source (get_or c.args.site.flows c.loop-j.j no_flow).sink
-top_value c = c.top-top.ensures _ c.requires.depths_value.2
-
-pub bounds-flows-j : goal.bounds-flows-j
-bounds-flows-j c = in_array c.args.site c.requires.site_value.0 c.args.order c.loop-j.j (turns (goal.at.bounds-flows-j c).In-loop-j)
+  -- and what the flow's constraint asks of the counts
+  abbrev own : Constraint
+  own = constraint_of site c.args.order flows c.flows-flow-items.ensures.flows flow
 
 pub top-top-requires : goal.top-top-requires
 top-top-requires c =
-    let number = c.requires.depths_value.1 in
-    let there = ends c.args.site c.requires.site_value.0 c.args.order c.loop-j.j (turns (goal.at.top-top-requires c).In-loop-j) in
-    (omega (arith, number, small c.args.site c.requires.site_value.0 c.args.order), omega (arith, number, there.0), omega (arith, number, there.1), (_, c.requires.depths_value.2))
+    let value = c.requires.depths_value in
+    let there = flow_ends c.args.site.site.now c.args.site.accepted c.flows-flow-items.result.now c.flows-flow-items.ensures.flows c.flows-flow-items.ensures.count c.loop-flow.flow-index c.loop-flow-test.true in
+    let counted = clusters_counted c.args.site.site.now c.args.site.accepted in
+    (omega (arith, value.1, counted, there.2), omega (arith, value.1, counted, there.0), omega (arith, value.1, counted, there.1), (_, value.2))
 
 pub bounds-depths-sink : goal.bounds-depths-sink
 bounds-depths-sink c =
-    let there = ends c.args.site c.requires.site_value.0 c.args.order c.loop-j.j (turns (goal.at.bounds-depths-sink c).In-loop-j) in
-    omega (arith, levels_number c.args.site c.requires.site_value.0 c.args.order c.args.depths.now c.requires.depths_value.0, there.1)
+    let there = flow_ends c.args.site.site.now c.args.site.accepted c.flows-flow-items.result.now c.flows-flow-items.ensures.flows c.flows-flow-items.ensures.count c.loop-flow.flow-index c.loop-flow-test.true in
+    omega (arith, ap length c.requires.depths_value.0 ∙ depths-length _, clusters_counted c.args.site.site.now c.args.site.accepted, there.1)
 
 pub bounds-depths-top : goal.bounds-depths-top
 bounds-depths-top c =
-    let running = turns (goal.at.bounds-depths-top c).In-loop-j in
-    let tops = top_value (goal.at.bounds-depths-top c).After-top-top in
-    let there = top_there c.args.site c.requires.site_value.0 c.args.order c.args.depths.now c.requires.depths_value.0 c.loop-j.j running _ tops in
-    omega (arith, levels_number c.args.site c.requires.site_value.0 c.args.order c.args.depths.now c.requires.depths_value.0, there.0)
+    omega (arith, ap length c.requires.depths_value.0 ∙ depths-length _, clusters_counted c.args.site.site.now c.args.site.accepted, (falls (goal.at.bounds-depths-top c).After-top-top).0.0)
 
 pub overflow_sub-depths : goal.overflow_sub-depths
-overflow_sub-depths c =
-    let running = turns (goal.at.overflow_sub-depths c).In-loop-j in
-    let tops = top_value (goal.at.overflow_sub-depths c).After-top-top in
-    omega (arith, (top_there c.args.site c.requires.site_value.0 c.args.order c.args.depths.now c.requires.depths_value.0 c.loop-j.j running _ tops).1)
+overflow_sub-depths c = (falls (goal.at.overflow_sub-depths c).After-top-top).0.1
 
 pub bounds-counts-sink : goal.bounds-counts-sink
 bounds-counts-sink c =
-    let there = ends c.args.site c.requires.site_value.0 c.args.order c.loop-j.j (turns (goal.at.bounds-counts-sink c).In-loop-j) in
-    omega (arith, c.requires.site_value.2, there.1)
+    let there = flow_ends c.args.site.site.now c.args.site.accepted c.flows-flow-items.result.now c.flows-flow-items.ensures.flows c.flows-flow-items.ensures.count c.loop-flow.flow-index c.loop-flow-test.true in
+    omega (arith, c.requires.site_value.1, clusters_counted c.args.site.site.now c.args.site.accepted, there.1)
 
 pub bounds-counts-source : goal.bounds-counts-source
 bounds-counts-source c =
-    let there = ends c.args.site c.requires.site_value.0 c.args.order c.loop-j.j (turns (goal.at.bounds-counts-source c).In-loop-j) in
-    omega (arith, c.requires.site_value.2, there.0)
+    let there = flow_ends c.args.site.site.now c.args.site.accepted c.flows-flow-items.result.now c.flows-flow-items.ensures.flows c.flows-flow-items.ensures.count c.loop-flow.flow-index c.loop-flow-test.true in
+    omega (arith, c.requires.site_value.1, clusters_counted c.args.site.site.now c.args.site.accepted, there.0)
 
 -- the flow's constraint is broken exactly if the test says so
-pub returns-then-wide-allowed : goal.returns-then-wide-allowed
-returns-then-wide-allowed c =
-    let accepted = c.requires.site_value.0 in
-    let running = turns (goal.at.returns-then-wide-allowed c).In-loop-j in
-    let tops = top_value (goal.at.returns-then-wide-allowed c).After-top-top in
-    let own = constraint c.args.site accepted c.args.order c.loop-j.j running in
-    let credit : c.allowed-allowed.result ≡ own.credit = c.allowed-allowed.ensures ∙ sym (allowed_divides _ _) in
-    let debit : c.wide-down.result ≡ own.debit =
-    c.wide-down.ensures.0 ∙ down c.args.site accepted c.args.order c.args.depths.now c.requires.depths_value.0 c.loop-j.j running _ tops in
-    let broken = broken_if own c.args.counts.now (omega (arith, credit, debit, c.wide.ensures.0, c.wide-in-loop-j.ensures.0, c.if-wide-allowed.true)) in
-    sym
-    (sym c.loop-j.invariant
-    ∙ broken_decides
-    _
-    _
-    _
-    (none c.args.site accepted c.args.order c.loop-j.j running)
-    (is_one c.args.site accepted c.args.order c.loop-j.j running)
-    (decides c.args.site accepted c.args.order c.loop-j.j running c.args.counts.now false broken))
+pub returns-then-from-allowed : goal.returns-then-from-allowed
+returns-then-from-allowed c =
+    let turn = (goal.at.returns-then-from-allowed c).After-top-top in
+    let credit : c.allowed-allowed.result ≡ (own turn).credit = c.allowed-allowed.ensures ∙ sym (allowed_divides _ _) in
+    let debit : c.from-down.result ≡ (own turn).debit = c.from-down.ensures ∙ (falls turn).1 in
+    let sink = c.from.ensures ∙ ap (at c.args.counts.now) c.from-sink.ensures in
+    let source = c.from-in-loop-flow.ensures ∙ ap (at c.args.counts.now) c.from-source.ensures in
+    let broken = broken_if (own turn) c.args.counts.now (omega (arith, credit, debit, sink, source, c.if-from-allowed.true)) in
+    sym (sym c.loop-flow.invariant ∙ one_decides (site turn) c.args.order (flows turn) c.flows-flow-items.ensures.flows c.args.counts.now c.loop-flow.flow-index c.loop-flow-test.true broken)
 
-pub loop-j-preserved : goal.loop-j-preserved
-loop-j-preserved c =
-    let accepted = c.requires.site_value.0 in
-    let running = turns (goal.at.loop-j-preserved c).In-loop-j in
-    let tops = top_value (goal.at.loop-j-preserved c).After-top-top in
-    let own = constraint c.args.site accepted c.args.order c.loop-j.j running in
-    let credit : c.allowed-allowed.result ≡ own.credit = c.allowed-allowed.ensures ∙ sym (allowed_divides _ _) in
-    let debit : c.wide-down.result ≡ own.debit =
-    c.wide-down.ensures.0 ∙ down c.args.site accepted c.args.order c.args.depths.now c.requires.depths_value.0 c.loop-j.j running _ tops in
-    let holds = okay_if own c.args.counts.now (omega (arith, credit, debit, c.wide.ensures.0, c.wide-in-loop-j.ensures.0, c.if-wide-allowed.false)) in
-    sym
-    (others_decide
-    _
-    _
-    _
-    (none c.args.site accepted c.args.order c.loop-j.j running)
-    (is_one c.args.site accepted c.args.order c.loop-j.j running)
-    (decides c.args.site accepted c.args.order c.loop-j.j running c.args.counts.now true holds))
-    ∙ c.loop-j.invariant
+pub loop-flow-preserved : goal.loop-flow-preserved
+loop-flow-preserved c =
+    let turn = (goal.at.loop-flow-preserved c).After-top-top in
+    let credit : c.allowed-allowed.result ≡ (own turn).credit = c.allowed-allowed.ensures ∙ sym (allowed_divides _ _) in
+    let debit : c.from-down.result ≡ (own turn).debit = c.from-down.ensures ∙ (falls turn).1 in
+    let sink = c.from.ensures ∙ ap (at c.args.counts.now) c.from-sink.ensures in
+    let source = c.from-in-loop-flow.ensures ∙ ap (at c.args.counts.now) c.from-source.ensures in
+    let holds = okay_if (own turn) c.args.counts.now (omega (arith, credit, debit, sink, source, c.if-from-allowed.false)) in
+    sym (rest_decides (site turn) c.args.order (flows turn) c.flows-flow-items.ensures.flows c.args.counts.now c.loop-flow.flow-index c.loop-flow-test.true holds) ∙ c.loop-flow.invariant
 
 pub returns : goal.returns
 returns c =
-    let counted = number c.args.site c.requires.site_value.0 c.args.order in
-    sym
-    (sym c.loop-j.invariant
-    ∙ none_broken
-    (all c.args.site c.requires.site_value.0 c.args.order)
-    c.args.counts.now
-    c.loop-j.j
-    (omega (arith, counted, c.loop-j-test.false, c.counted.ensures.0)))
+    let number = number c.args.site.site.now c.args.order c.flows-flow-items.result.now c.flows-flow-items.ensures.flows in
+    sym (sym c.loop-flow.invariant ∙ none_broken (all c.args.site.site.now c.args.order c.flows-flow-items.result.now c.flows-flow-items.ensures.flows) c.args.counts.now c.loop-flow.flow-index (omega arith))

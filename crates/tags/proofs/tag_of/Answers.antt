@@ -4,4 +4,4 @@ use Rattle.tags.specs.LineTags.{tag_made, decoded_tag}
 use Rattle.tags.proofs.tag_of.Goals as goal
 
 pub returns : goal.returns
-returns c = tag_made _ 4 _ _ _ (c.tag_bytes.ensures ∙ decoded_tag _ _ _ c.requires.0 c.requires.1) refl
+returns c = tag_made _ 4 _ _ _ (c.tag_bytes.ensures ∙ decoded_tag _ _ _ c.args.line.now.decoded c.requires) refl

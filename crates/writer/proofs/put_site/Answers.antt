@@ -1,45 +1,49 @@
 -- The size is the text's length, so a shorter room is refused as it stands, and in any other the three parts
 -- of the text fit one behind the other.
-use mathlib.Core.Path.{◌≡◌, sym, ap, ◌∙◌}
-use Prim.Native.Nat.{◌+◌, ◌≤◌, ◌<◌}
-use native.Mathlib.Omega.{arith}
-use lib.ListN.{length}
-use borrow.Author.Tests.{le-leb, lt-leb}
+use Rattle.std.proofs.Common.{◌≡◌, ◌+◌, ◌≤◌, ◌<◌, length, arith, sym, ap, ◌∙◌, Ok, le-leb}
+use Rattle.std.proofs.lemmas.Bool.{lt-leb}
 use Rattle.hexroom.specs.Room.{put_handed, short_handed}
-use Rattle.writer.specs.declared.Written.TheVariants.{Length}
 use Rattle.writer.specs.Text.{text_of}
 use Rattle.writer.specs.TextLaws.{header-length, text-length, text_put}
 use Rattle.writer.proofs.put_site.Goals as goal
-use Rattle.writer.proofs.put_site.Goals.{After-flows_size}
+use Rattle.writer.proofs.put_site.Goals.{After-size_of-2}
 
-size : (c : After-flows_size) → let site = c.args.site in
-    9 + c.clusters_size.result + c.flows_size.result ≡ length (text_of site)
+size : (c : After-size_of-2) → 9 + c.size_of.result + c.size_of-2.result ≡ length (text_of c.args.records.site.now)
 size c =
-    let site = c.args.site in
-    omega (arith, text-length site, header-length site.cluster_count site.flow_count, c.clusters_size.ensures.0, c.flows_size.ensures.0)
+    let site = c.args.records.site.now in
+    let clusters = rw c.clusters-clusters.ensures.clusters at c.size_of.ensures.0 in
+    let flows = rw c.flows-flows.ensures.flows at c.size_of-2.ensures.0 in
+    omega (arith, text-length site, header-length site.cluster_count site.flow_count, clusters, flows)
 
-fits : (c : After-flows_size) → 9 + c.clusters_size.result + c.flows_size.result ≤ length c.args.room.now → length (text_of c.args.site) ≤ length c.args.room.now
+fits : (c : After-size_of-2) → 9 + c.size_of.result + c.size_of-2.result ≤ length c.args.room.now → length (text_of c.args.records.site.now) ≤ length c.args.room.now
 fits c enough = omega (arith, size c)
 
 pub returns-then-room-size : goal.returns-then-room-size
-returns-then-room-size c = let args = c.args in
-    let short : length args.room.now < length (text_of args.site) = omega (arith, c.if-room-size.true, size (goal.at.returns-then-room-size c).After-flows_size) in
-    (c.refused.ensures ∙ rw (lt-leb _ _ short), sym (short_handed args.room.now (text_of args.site) short))
+returns-then-room-size c =
+    let room = c.args.room.now in
+    let text = text_of c.args.records.site.now in
+    let short : length room < length text = omega (arith, c.if-room-size.true, size (goal.at.returns-then-room-size c).After-size_of-2) in
+    (rw (c.in_line.ensures, lt-leb _ _ short), sym (short_handed room text short))
 
 pub put_header-behind_header-requires : goal.put_header-behind_header-requires
-put_header-behind_header-requires c = omega (arith, fits (goal.at.put_header-behind_header-requires c).After-flows_size c.if-room-size.false, text-length c.args.site)
+put_header-behind_header-requires c = omega (arith, fits (goal.at.put_header-behind_header-requires c).After-size_of-2 c.if-room-size.false, text-length c.args.records.site.now)
 
-pub put_clusters-behind_clusters-requires : goal.put_clusters-behind_clusters-requires
-put_clusters-behind_clusters-requires c = (c.requires.0, omega (arith, fits (goal.at.put_clusters-behind_clusters-requires c).After-flows_size c.if-room-size.false, text-length c.args.site, c.put_header-behind_header.ensures.0, c.put_header-behind_header.auto.room))
+pub put_rows-behind_clusters-requires : goal.put_rows-behind_clusters-requires
+put_rows-behind_clusters-requires c =
+    rw c.clusters-clusters.ensures.clusters (omega (arith, fits (goal.at.put_rows-behind_clusters-requires c).After-size_of-2 c.if-room-size.false, text-length c.args.records.site.now, c.put_header-behind_header.ensures.0, c.put_header-behind_header.auto.room))
 
-pub put_flows-end-requires : goal.put_flows-end-requires
-put_flows-end-requires c = (c.requires.1, omega (arith, fits (goal.at.put_flows-end-requires c).After-flows_size c.if-room-size.false, text-length c.args.site, c.put_header-behind_header.ensures.0, c.put_header-behind_header.auto.room, c.put_clusters-behind_clusters.ensures.0, c.put_clusters-behind_clusters.auto.room))
+pub put_rows-requires : goal.put_rows-requires
+put_rows-requires c =
+    let clusters = rw c.clusters-clusters.ensures.clusters at c.put_rows-behind_clusters.ensures in
+    rw c.flows-flows.ensures.flows (omega (arith, fits (goal.at.put_rows-requires c).After-size_of-2 c.if-room-size.false, text-length c.args.records.site.now, c.put_header-behind_header.ensures.0, c.put_header-behind_header.auto.room, clusters.0, c.put_rows-behind_clusters.auto.room))
 
 pub returns : goal.returns
-returns c = let args = c.args in
-    let text = text_of args.site in
+returns c =
+    let site = c.args.records.site.now in
+    let room = c.args.room.now in
+    let fit = fits (goal.at.returns c).After-size_of-2 c.if-room-size.false in
     let header = c.put_header-behind_header.ensures in
-    let clusters = c.put_clusters-behind_clusters.ensures in
-    let flows = c.put_flows-end.ensures in
-    let end : c.put_flows-end.result ≡ length text = omega (arith, text-length args.site, header.0, clusters.0, flows.0) in
-    (rw (le-leb _ _ (fits (goal.at.returns c).After-flows_size c.if-room-size.false)) (ap Length end), rw (flows.1, clusters.1, header.1) (text_put args.site args.room.now _ _ header.0 clusters.0) ∙ put_handed args.room.now text (fits (goal.at.returns c).After-flows_size c.if-room-size.false))
+    let clusters = rw c.clusters-clusters.ensures.clusters at c.put_rows-behind_clusters.ensures in
+    let flows = rw c.flows-flows.ensures.flows at c.put_rows.ensures in
+    let end : c.put_rows.result ≡ length (text_of site) = omega (arith, text-length site, header.0, clusters.0, flows.0) in
+    (rw (le-leb _ _ fit) (ap Ok end), rw (flows.1, clusters.1, header.1) (text_put site room _ _ header.0 clusters.0) ∙ put_handed room (text_of site) fit)

@@ -4,4 +4,4 @@ use Rattle.demands.proofs.clients.plan_records.Goals as goal
 
 pub returns : goal.returns
 returns c = let called = c.plan in
-    rw (called.ensures.0, called.ensures.1) (planner_is_exact c.args.site c.args.room.now)
+    rw (called.ensures.0, called.ensures.1) (planner_is_exact c.args.site.now c.args.room.now)

@@ -1,11 +1,8 @@
--- The invariant: `sum` and `sums` are those of the first `k` words, and far from 2 ^ 64.
+-- The invariant: `sum` and `sums` are those of the words so far, and far from 2 ^ 64.
 use mathlib.Core.Path.{◌≡◌}
-use Prim.Native.Nat.{◌*◌, ◌-◌, ◌≤◌}
+use Prim.Native.Nat.{◌*◌, ◌≤◌}
 use Rattle.reader.specs.Prints.{total, totals}
 use Rattle.reader.proofs.prints.print_of.Given as goal
 
-abbrev pub invariant-loop-k : goal.invariant-loop-k
-invariant-loop-k l = (l.k ≤ 16) × (l.sum ≡ total l.tag l.k) × (l.sums ≡ totals l.tag l.k) × (l.sum ≤ l.k * 4294967296) × (l.sums ≤ l.k * 68719476736)
-
-abbrev pub decreases-loop-k : goal.decreases-loop-k
-decreases-loop-k l = 16 - l.k
+abbrev pub invariant-loop-word : goal.invariant-loop-word
+invariant-loop-word l = (l.sum ≡ total l.tag l.word-index) × (l.sums ≡ totals l.tag l.word-index) × (l.sum ≤ l.word-index * 4294967296) × (l.sums ≤ l.word-index * 68719476736)

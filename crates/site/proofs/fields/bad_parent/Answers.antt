@@ -9,4 +9,4 @@ returns-then-i-eq0 c = simp (eq-eqb _ _ c.if-i-eq0.true)
 
 pub returns-else-i-eq0 : goal.returns-else-i-eq0
 unfolding wrong_parent
-returns-else-i-eq0 c = simp (ne_eqb _ _ c.if-i-eq0.false, ← c.wide.ensures.0)
+returns-else-i-eq0 c = simp (ne_eqb _ _ c.if-i-eq0.false, ← c.from.ensures)

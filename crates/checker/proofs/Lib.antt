@@ -1,0 +1,2 @@
+-- the first line of a plan text
+pub mod FirstLine

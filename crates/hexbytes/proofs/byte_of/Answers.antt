@@ -1,6 +1,0 @@
--- A byte beside the line is the line's.
-use Rattle.hexbytes.specs.DecodeLaws.{decoded_at}
-use Rattle.hexbytes.proofs.byte_of.Goals as goal
-
-pub returns : goal.returns
-returns c = decoded_at _ _ _ c.requires.0 c.requires.1
