@@ -47,7 +47,10 @@ fn walk_lines(site: Accepted, lines: &[u8], interval: u64, starts: &mut [u32; 64
     let mut rest = lines;
     // No iterator finds the lines: one that keeps the layout ends where its tag length says.
     while !rest.is_empty() {
-        let line = planlines::front_line(rest)?;
+        // Not by `?`: what is told of a line that breaks the layout stands here, and is tried to be wrong.
+        let Some(line) = planlines::front_line(rest) else {
+            return None;
+        };
         let number = usize::from(line.number);
         let described = clusters.get(number).is_some_and(|cluster| {
             planlines::describes(cluster, rest, line.length, line.len)

@@ -2,29 +2,16 @@
 // They take any bytes and any lengths.
 #![tactic(auto)]
 
-ghost use Rattle.std.specs.Prelude.{◌≡◌, Err, length, IfOk, IfErr};
+ghost use Rattle.std.specs.Prelude.{◌≡◌, length};
 ghost use Rattle.hexroom.specs.Room.{handed};
 ghost use Rattle.shown.specs.Shown.{line_start, line_at};
-ghost use Rattle.site.specs.Records.{no_site};
-ghost use Rattle.reader.specs.Reading.{read_text, accepted as read_as};
 ghost use Rattle.writer.specs.Text.{written_says, fitting};
 ghost use Rattle.commission.specs.Numbers.{number_of, plan_number, plan_room, rewrite_number, rewrite_room, place_number, check_number};
 ghost use Rattle.commission.specs.NumberLaws.{SmallWriting};
 
 use reader::NO_SITE;
 use records::Accepted;
-use site::{Reason, Refusal, Site};
-
-// Reads the records of a text into `site`, which is all zero, or gives the reader's refusal. What was read needs no second
-// check.
-fn read_accepted<'a>(text: &[u8], site: &'a mut Site) -> Result<Accepted<'a>, Refusal>
-    requires { site.old ≡ no_site }
-    ensures refused { IfErr result (λ told. (read_text text.now).verdict ≡ Err told) }
-    ensures taken { IfOk result (λ taken. read_text text.now ≡ read_as taken.site.now) }
-{
-    reader::read_into(text, site)?;
-    Ok(Accepted { site })
-}
+use site::{NO_PLACE, Reason, Refusal};
 
 // Copies the text of an accepted site into the room, or refuses by 9 where the room is shorter. What is
 // written of the records that were read is the text itself (`write_of_read` of crate roundtrip), so no
@@ -40,7 +27,7 @@ fn give_back(text: &[u8], room: &mut [u8]) -> Result<usize, Refusal>
     Ok(text.len())
 }
 
-// Plans the site, and answers the length of the plan text.
+// Plans the site, and answers the length of the plan text. What was read needs no second check.
 #[tactic(auto, unfolding(site::specs::Records::no_site))]
 fn planned(text: &[u8], room: &mut [u8]) -> Result<usize, Refusal>
     ensures small { SmallWriting result }
@@ -48,7 +35,8 @@ fn planned(text: &[u8], room: &mut [u8]) -> Result<usize, Refusal>
     ensures after { room.new ≡ plan_room text.now room.old }
 {
     let mut records = NO_SITE;
-    let site = read_accepted(text, &mut records)?;
+    reader::read_into(text, &mut records)?;
+    let site = Accepted { site: &records };
     let plan = planner::plan_accepted(site, room)?;
     Ok(plan.length)
 }
@@ -61,7 +49,7 @@ fn rewritten(text: &[u8], room: &mut [u8]) -> Result<usize, Refusal>
     ensures after { room.new ≡ rewrite_room text.now room.old }
 {
     let mut records = NO_SITE;
-    read_accepted(text, &mut records)?;
+    reader::read_into(text, &mut records)?;
     give_back(text, room)
 }
 
@@ -72,7 +60,8 @@ fn passed(text: &[u8], plan: &[u8]) -> Result<usize, Refusal>
     ensures number { number_of (written_says result) ≡ check_number text.now plan.now }
 {
     let mut records = NO_SITE;
-    let site = read_accepted(text, &mut records)?;
+    reader::read_into(text, &mut records)?;
+    let site = Accepted { site: &records };
     checker::check_accepted(site, plan)?;
     Ok(0)
 }
@@ -112,7 +101,7 @@ pub fn cartheron_place(text: &[u8]) -> u32
 {
     let mut records = NO_SITE;
     match reader::read_into(text, &mut records) {
-        Ok(()) => 255,
+        Ok(()) => u32::from(NO_PLACE),
         Err(refusal) => u32::from(refusal.place()),
     }
 }

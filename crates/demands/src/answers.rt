@@ -4,6 +4,7 @@
 ghost use Rattle.std.specs.Prelude.{◌≤◌, length};
 ghost use Rattle.hexroom.specs.Fields.{bytes_of_fields};
 
+use crate::MOST_BYTES;
 use hexroom::Field;
 use planner::Plan;
 use reader::Reading;
@@ -22,7 +23,7 @@ pub trait Answer {
 
     // Prints the answer of a client that was lent the start of a space of '.', its text, and how many
     // bytes of the space changed.
-    fn print_with(&self, rt: &impl Print, space: &[u8]) -> io::Result<()> {
+    fn print_with(&self, rt: &impl Print, space: &[u8; MOST_BYTES]) -> io::Result<()> {
         self.print(rt)?;
         if let Some(text) = space.get(..self.text_length()) {
             rt.write_all(text)?;
@@ -37,7 +38,7 @@ impl Answer for u32 {
         print_line(rt, &[Field::new(4, u64::from(*self))])
     }
 
-    fn print_with(&self, rt: &impl Print, space: &[u8]) -> io::Result<()> {
+    fn print_with(&self, rt: &impl Print, space: &[u8; MOST_BYTES]) -> io::Result<()> {
         print_line(
             rt,
             &[
@@ -156,7 +157,11 @@ pub fn print_part(rt: &impl Print, part: &[u8]) -> io::Result<()> {
     rt.write_all(b"\n")
 }
 
-// How many bytes of a space are not '.'.
-fn changed(space: &[u8]) -> u64 {
-    space.iter().filter(|&&b| b != b'.').count() as u64
+// How many bytes of a space are not '.'. They are counted in two bytes, which is enough for them and the
+// fewer a number has, the more of a row are counted at once: `count` has eight.
+fn changed(space: &[u8; MOST_BYTES]) -> u64 {
+    let count = space
+        .iter()
+        .fold(0u16, |count, &b| count.wrapping_add(u16::from(b != b'.')));
+    u64::from(count)
 }

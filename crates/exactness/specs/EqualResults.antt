@@ -9,8 +9,10 @@ use Rattle.std.proofs.Common.{sym, ◌∙◌, subst, arith}
 use Rattle.std.specs.Borrow.{Bor}
 use Rattle.hexline.specs.Digits.{is_digit as is_digit_of, digit, hex_of, byte_at, number_at, hexes, number_bytes, field_bytes, line_of}
 use Rattle.hexline.specs.Loops.{every}
-use Rattle.hexbytes.specs.declared.line.Line.{Line}
+use Rattle.hexbytes.specs.declared.line.FormedLine.{FormedLine}
+use Rattle.hexbytes.specs.Decoded.{nibble as nibble_of}
 use Rattle.hexline.specs.Lines.{Row, rows, line_length, malformed}
+use Rattle.hexroom.specs.declared.Field.{Field}
 use Rattle.hexroom.specs.Room.{put}
 use Rattle.model.specs.declared.Order.{Order}
 use Rattle.model.specs.Counting.{at as number_in, values}
@@ -32,14 +34,16 @@ use Rattle.site.specs.declared.Cluster.{Cluster}
 use Rattle.site.specs.declared.Flow.{Flow}
 use Rattle.site.specs.declared.Kind.{Kind}
 use Rattle.site.specs.declared.Kind.TheVariants.{Header, Cluster as ACluster, Flow as AFlow}
+use Rattle.site.specs.declared.refusal.Reason.{Reason}
 use Rattle.site.specs.declared.Site.{Site}
 use Rattle.site.specs.declared.Tag.{Tag}
 use Rattle.site.specs.Fields.{header_verdict, untagged_verdict, flow_verdict}
-use Rattle.site.specs.Kinds.{kind_number, some_kind}
+use Rattle.site.specs.Kinds.{first_byte, kind_number, some_kind}
 use Rattle.site.specs.Lines.{tag_at}
-use Rattle.site.specs.Records.{same_tag, wrong_parent}
-use Rattle.site.specs.Refusals.{Verdict}
+use Rattle.site.specs.Records.{same_tag, tag_taken, wrong_parent}
+use Rattle.site.specs.Refusals.{number_of, at_line, at_field, Verdict}
 use Rattle.site.specs.Table.{due, entry_of}
+use Rattle.site.specs.Told.{Told, number as number_told, line as line_told, place as place_told}
 use Rattle.reader.specs.Reading.{read_text, records_of}
 use Rattle.records.specs.Check.{checked}
 use Rattle.shown.specs.Shown.{line_start as line_start_of, line_at as line_at_of, Shown}
@@ -75,8 +79,12 @@ pub record SameFigures (a b : Figures) : Type 0 where
   pub total : a.total ≡ b.total
 
 -- what is decoded of a line is none where it is malformed, else a line with its text
-abbrev pub DecodedFrom : ℕ → Row → Option Line → Type 0
-DecodedFrom most r decoded = (is_none decoded ≡ malformed most r) × IfSome decoded (λ line. line.chars.now ≡ r.chars)
+abbrev pub DecodedFrom : ℕ → Row → Option FormedLine → Type 0
+DecodedFrom most r decoded = (is_none decoded ≡ malformed most r) × IfSome decoded (λ formed. formed.line.chars.now ≡ r.chars)
+
+-- a number in a line, with how many bytes it takes
+abbrev field : ℕ → ℕ → Field
+field width value = record { width = width; value = value }
 
 -- a kind is known by its number
 one_kind : (a b : Option Kind) → kind_number a ≡ kind_number b → a ≡ b
@@ -103,8 +111,9 @@ pub record EqualResults : Type 0 where
   pub is_digit : (b : ℕ) → OneResult (is_digit_of b)
   pub digit_of : (b : ℕ) → OneResult (digit b)
   pub hex_of : (v : ℕ) → OneResult (hex_of v)
-  pub line_decode : (most : ℕ) (r : Row) (r₁ r₂ : Option Line) → DecodedFrom most r r₁ → DecodedFrom most r r₂ → (is_none r₁ ≡ is_none r₂)
-      × ((line₁ line₂ : Line) → r₁ ≡ Some line₁ → r₂ ≡ Some line₂ → (line₁.chars.now ≡ line₂.chars.now) × (line₁.bytes ≡ line₂.bytes))
+  pub nibble : (c : ℕ) → OneResult (nibble_of c)
+  pub line_decode : (most : ℕ) (r : Row) (r₁ r₂ : Option FormedLine) → DecodedFrom most r r₁ → DecodedFrom most r r₂ → (is_none r₁ ≡ is_none r₂)
+      × ((formed₁ formed₂ : FormedLine) → r₁ ≡ Some formed₁ → r₂ ≡ Some formed₂ → (formed₁.line.chars.now ≡ formed₂.line.chars.now) × (formed₁.line.bytes ≡ formed₂.line.bytes))
   pub line_len : (line : List ℕ) → OneResult (length line / 2)
   pub line_byte : (line : List ℕ) (k : ℕ) → OneResult (byte_at line k)
   pub line_four_bytes : (line : List ℕ) (k : ℕ) → OneResult (number_at line k 4)
@@ -114,6 +123,8 @@ pub record EqualResults : Type 0 where
   pub line_end : (text : List ℕ) (at : ℕ) → OneResult (at + line_length (drop at text))
   pub put_bytes : (room : List ℕ) (at : ℕ) (bytes : List ℕ) → OneResultInRoom (at + 2 * length bytes) (put room at (hexes bytes))
   pub put_number : (room : List ℕ) (at value width : ℕ) → OneResultInRoom (at + 2 * width) (put room at (hexes (number_bytes width value)))
+  pub field_new : (width value : ℕ) → OneResult (field width value)
+  pub field_byte : (value : ℕ) → OneResult (field 1 value)
   pub put_fields : (room : List ℕ) (at : ℕ) (widths values : List ℕ) → OneResultInRoom (at + 2 * length (field_bytes widths values)) (put room at (hexes (field_bytes widths values)))
   pub put_line : (room : List ℕ) (at : ℕ) (widths values tail : List ℕ) → OneResultInRoom (at + length (line_of (field_bytes widths values ++ tail))) (put room at (line_of (field_bytes widths values ++ tail)))
   -- the orders
@@ -124,11 +135,21 @@ pub record EqualResults : Type 0 where
   -- the reader
   pub wide : (x : ℕ) (r₁ r₂ : ℕ) → (r₁ ≡ x) × (r₁ < 256) → (r₂ ≡ x) × (r₂ < 256) → r₁ ≡ r₂
   pub counted : (len : ℕ) → OneResult (min len 64)
+  pub reason_number : (reason : Reason) → OneResult (number_of reason)
+  pub in_line : (reason : Reason) (line : ℕ) → OneResult (at_line reason line)
+  pub in_field : (reason : Reason) (line place : ℕ) → OneResult (at_field reason line place)
+  pub refusal_number : (refused : Told) → OneResult (number_told refused)
+  pub refusal_line : (refused : Told) → OneResult (line_told refused)
+  pub refusal_place : (refused : Told) → OneResult (place_told refused)
+  pub packed : (refused : Told) → OneResult (65536 * number_told refused + line_told refused)
+  pub counted_clusters : (s : Site) → OneResult (take s.cluster_count s.clusters)
+  pub counted_flows : (s : Site) → OneResult (take s.flow_count s.flows)
   pub header_verdict : (k version clusters flows : ℕ) → OneResult (header_verdict k version clusters flows)
   pub untagged_verdict : (k order len : ℕ) → OneResult (untagged_verdict k order len)
   pub flow_verdict : (k clusters : ℕ) (f : Flow) → OneResult (flow_verdict k clusters f)
   pub bad_parent : (i parent : ℕ) → OneResult (wrong_parent i parent)
   pub due_at : (k clusters flows : ℕ) (r₁ r₂ : Option Kind) → kind_number r₁ ≡ due k clusters flows → kind_number r₂ ≡ due k clusters flows → r₁ ≡ r₂
+  pub first_byte : (kind : Kind) → OneResult (first_byte kind)
   pub read_line : (k clusters flows : ℕ) (r : Row) → OneResult (entry_of k clusters flows r)
   pub entry_of_line : (k clusters flows : ℕ) (chars : List ℕ) → OneResult (entry_of k clusters flows (record { chars = chars; ended = true }))
   pub read_into : (text : List ℕ) (r₁ r₂ : Verdict) (s₁ s₂ : Site) → (r₁ ≡ (read_text text).verdict) × OnOk r₁ (s₁ ≡ (read_text text).site)
@@ -136,7 +157,10 @@ pub record EqualResults : Type 0 where
   pub records : (text : List ℕ) → OneResult (records_of (read_text text))
   pub read : (text : List ℕ) → OneResult (read_text text)
   pub check : (s : Site) → OneResult (checked s)
+  pub accepted_clusters : (s : Site) → OneResult (take s.cluster_count s.clusters)
+  pub accepted_flows : (s : Site) → OneResult (take s.flow_count s.flows)
   pub same_tag : (a b : Tag) → OneResult (same_tag a b)
+  pub is_taken : (clusters : List Cluster) (tag : Tag) → OneResult (tag_taken clusters (length clusters) tag)
   pub tag_of : (line : List ℕ) (len : ℕ) → OneResult (tag_at line 4 len)
   pub line_start : (text : List ℕ) (k : ℕ) → OneResult (line_start_of text k)
   pub line_at : (text part₁ part₂ : Bor (List ℕ)) (k : ℕ) → Shown text part₁ k → Shown text part₂ k → (part₁.ref_ptr ≡ part₂.ref_ptr) × (part₁.now ≡ part₂.now)
@@ -180,11 +204,12 @@ results_are_equal = record {
   is_digit = λ b. equal_results (is_digit_of b);
   digit_of = λ b. equal_results (digit b);
   hex_of = λ v. equal_results (hex_of v);
+  nibble = λ c. equal_results (nibble_of c);
   line_decode = λ most r r₁ r₂ p q. (
     equal_results (malformed most r) (is_none r₁) (is_none r₂) p.0 q.0,
-    λ line₁ line₂ e₁ e₂.
-        let chars = equal_results r.chars line₁.chars.now line₂.chars.now (rw e₁ at p.1) (rw e₂ at q.1) in
-        (chars, line₁.decoded.bytes ∙ rw chars (sym line₂.decoded.bytes)),
+    λ formed₁ formed₂ e₁ e₂.
+        let chars = equal_results r.chars formed₁.line.chars.now formed₂.line.chars.now (rw e₁ at p.1) (rw e₂ at q.1) in
+        (chars, formed₁.line.decoded.bytes ∙ rw chars (sym formed₂.line.decoded.bytes)),
   );
   line_len = λ line. equal_results (length line / 2);
   line_byte = λ line k. equal_results (byte_at line k);
@@ -195,6 +220,8 @@ results_are_equal = record {
   line_end = λ text at. equal_results (at + line_length (drop at text));
   put_bytes = λ room at bytes. equal_results_in_room (at + 2 * length bytes) (put room at (hexes bytes));
   put_number = λ room at value width. equal_results_in_room (at + 2 * width) (put room at (hexes (number_bytes width value)));
+  field_new = λ width value. equal_results (field width value);
+  field_byte = λ value. equal_results (field 1 value);
   put_fields = λ room at widths values. equal_results_in_room (at + 2 * length (field_bytes widths values)) (put room at (hexes (field_bytes widths values)));
   put_line = λ room at widths values tail. equal_results_in_room (at + length (line_of (field_bytes widths values ++ tail))) (put room at (line_of (field_bytes widths values ++ tail)));
   order_new = λ number r₁ r₂ p q. equal_results (record { number = number }) r₁ r₂ (λ i. record { number = p i }) (λ i. record { number = q i });
@@ -203,11 +230,21 @@ results_are_equal = record {
   order_permitted = λ number periods. equal_results (permitted number periods);
   wide = λ x r₁ r₂ p q. equal_results x r₁ r₂ p.0 q.0;
   counted = λ len. equal_results (min len 64);
+  reason_number = λ reason. equal_results (number_of reason);
+  in_line = λ reason line. equal_results (at_line reason line);
+  in_field = λ reason line place. equal_results (at_field reason line place);
+  refusal_number = λ refused. equal_results (number_told refused);
+  refusal_line = λ refused. equal_results (line_told refused);
+  refusal_place = λ refused. equal_results (place_told refused);
+  packed = λ refused. equal_results (65536 * number_told refused + line_told refused);
+  counted_clusters = λ s. equal_results (take s.cluster_count s.clusters);
+  counted_flows = λ s. equal_results (take s.flow_count s.flows);
   header_verdict = λ k version clusters flows. equal_results (header_verdict k version clusters flows);
   untagged_verdict = λ k order len. equal_results (untagged_verdict k order len);
   flow_verdict = λ k clusters f. equal_results (flow_verdict k clusters f);
   bad_parent = λ i parent. equal_results (wrong_parent i parent);
   due_at = λ k clusters flows r₁ r₂ p q. one_kind r₁ r₂ (equal_results (due k clusters flows) (kind_number r₁) (kind_number r₂) p q);
+  first_byte = λ kind. equal_results (first_byte kind);
   read_line = λ k clusters flows r. equal_results (entry_of k clusters flows r);
   entry_of_line = λ k clusters flows chars. equal_results (entry_of k clusters flows (record { chars = chars; ended = true }));
   read_into = λ text r₁ r₂ s₁ s₂ p q.
@@ -216,7 +253,10 @@ results_are_equal = record {
   records = λ text. equal_results (records_of (read_text text));
   read = λ text. equal_results (read_text text);
   check = λ s. equal_results (checked s);
+  accepted_clusters = λ s. equal_results (take s.cluster_count s.clusters);
+  accepted_flows = λ s. equal_results (take s.flow_count s.flows);
   same_tag = λ a b. equal_results (same_tag a b);
+  is_taken = λ clusters tag. equal_results (tag_taken clusters (length clusters) tag);
   tag_of = λ line len. equal_results (tag_at line 4 len);
   line_start = λ text k. equal_results (line_start_of text k);
   line_at = λ text part₁ part₂ k p q.

@@ -12,7 +12,7 @@ ghost use Rattle.hexline.specs.Loops.{every, filled};
 ghost use Rattle.hexbytes.specs.Blocks.{laid};
 ghost use Rattle.hexbytes.specs.Decoded.{Decoded, nibble as nibble_of, pair_at, raw_at};
 
-pub use line::Line;
+pub use line::{FormedLine, Line};
 
 // The value of a digit, without a test; some number for another character.
 pub fn nibble(c: u8) -> u8

@@ -1,24 +1,30 @@
-// A line of whole bytes, with its bytes (docs/FORMATS.md, "Site text").
+// A line with its bytes, and one that is well formed (docs/FORMATS.md, "Site text").
 ghost use Rattle.std.specs.Prelude.{◌≡◌, true, false, ◌+◌, ◌*◌, ◌/◌, ◌≤◌, ◌<◌, length, is_none, IfSome};
 ghost use Rattle.hexline.specs.Digits.{byte_at, number_at};
 ghost use Rattle.hexline.specs.Lines.{malformed};
 ghost use Rattle.hexbytes.specs.Decoded.{Decoded};
 
-// A well-formed line, decoded once: what it says is read off its bytes.
+// A line, decoded once: what it says is read off its bytes.
 #[derive(Clone, Copy, Drop)]
 pub struct Line<'a> {
     pub chars: &'a [u8],
     pub bytes: [u8; 68],
-    ghost well_formed: { malformed 136 (record { chars = chars.now; ended = true }) ≡ false },
     ghost decoded: { Decoded chars.now bytes },
+}
+
+// A well-formed line.
+#[derive(Clone, Copy, Drop)]
+pub struct FormedLine<'a> {
+    pub line: Line<'a>,
+    ghost well_formed: { malformed 136 (record { chars = line.chars.now; ended = true }) ≡ false },
 }
 
 impl<'a> Line<'a> {
     // Decodes a line of at most `most` digits, which an LF has to end; none where it is malformed.
-    pub fn decode(chars: &'a [u8], ended: bool, most: usize) -> Option<Line<'a>>
+    pub fn decode(chars: &'a [u8], ended: bool, most: usize) -> Option<FormedLine<'a>>
         requires { most ≤ 136 }
         ensures none { is_none result ≡ malformed most (record { chars = chars.now; ended = ended }) }
-        ensures of_chars { IfSome result (λ line. line.chars.now ≡ chars.now) }
+        ensures of_chars { IfSome result (λ formed. formed.line.chars.now ≡ chars.now) }
     {
         if chars.is_empty() || chars.len() > most || chars.len() % 2 != 0 {
             return None;
@@ -27,7 +33,8 @@ impl<'a> Line<'a> {
         if !crate::decode(chars, &mut bytes) || !ended {
             return None;
         }
-        Some(Line { chars, bytes })
+        let line = Line { chars, bytes };
+        Some(FormedLine { line })
     }
 
     // How many bytes it has.

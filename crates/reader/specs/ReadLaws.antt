@@ -1,7 +1,7 @@
 -- What each answer of the line reader means for the reader of a text: the tests that the line passed, and the records that the next line meets.
 use Rattle.std.proofs.Math.Path.{◌≡◌, ap}
-use Rattle.std.specs.Prelude.{refl, true, false, eqb, Result, Ok, Err}
-use Rattle.std.proofs.Common.{◌∙◌, subst, inl, inr, arith}
+use Rattle.std.specs.Prelude.{refl, true, false, eqb, Result, Ok, Err, is_err, OnOk}
+use Rattle.std.proofs.Common.{sym, ◌∙◌, subst, inl, inr, arith}
 use Rattle.std.proofs.Math.Bool.{not}
 use mathlib.Core.List.{List, [], ◌∷◌, ◌++◌}
 use Prim.Native.Nat.{ℕ, ◌+◌, ◌-◌, ◌/◌, ◌≤◌, ◌<◌}
@@ -26,7 +26,7 @@ use Rattle.site.specs.Lines.{size, tag_at, cluster_of, flow_of}
 use Rattle.site.specs.Table.{refused_if, or_else, first_of, due, wrong_kind, wrong_length, fields_verdict, repeated, line_verdicts, record_of, answered, entry_of, line_verdict}
 use Rattle.site.specs.TableLaws.{header, cluster, flow, beyond, place, all_accept, test_accepts}
 use Rattle.reader.specs.declared.Reading.{Reading}
-use Rattle.reader.specs.Reading.{with_header, with_cluster, with_flow, verdict_at, entered, accepted as taken, refused_by, refused, onward, read_rows, read_text, records_if, records_of}
+use Rattle.reader.specs.Reading.{with_header, with_cluster, with_flow, verdict_at, entered, accepted as taken, refused_by, refused, onward, read_rows, read_text}
 
 -- the first of two lists of verdicts
 first-append : (vs ws : List Verdict) → first_of (vs ++ ws) ≡ or_else (first_of vs) (first_of ws)
@@ -240,10 +240,11 @@ rows_zero u k s [] e = elim (decide (eqb (due k s.cluster_count s.flow_count) 0)
 ]
 rows_zero u k s (r ∷ rs) e = onward_refused u (verdict_at k s r) (read_rows (k + 1) (entered k s r.chars) rs) (rows_zero u (k + 1) (entered k s r.chars) rs) e
 
-refused_alone : (u : Told) (v : Verdict) (s : Site) → records_if v s ≡ Err u → v ≡ Err u
-refused_alone u (Ok _) s e = cc
-refused_alone u (Err _) s e = cc
-
-pub text_refused : (t : List ℕ) (u : Told) → records_of (read_text t) ≡ Err u → read_text t ≡ refused_by u
+pub text_refused : (t : List ℕ) (v : Verdict) → is_err v ≡ true → v ≡ (read_text t).verdict → ◌≡◌ {A = Reading} (record { site = no_site; verdict = v }) (read_text t)
 unfolding read_text
-text_refused t u e = rows_zero u 1 no_site (rows t) (refused_alone u (read_text t).verdict (read_text t).site e)
+text_refused t (Ok _) e p = cc
+text_refused t (Err u) e p = sym (rows_zero u 1 no_site (rows t) (sym p))
+
+pub text_taken : (t : List ℕ) (v : Verdict) (s : Site) → is_err v ≡ false → v ≡ (read_text t).verdict → OnOk v (s ≡ (read_text t).site) → ◌≡◌ {A = Reading} (record { site = s; verdict = v }) (read_text t)
+text_taken t (Ok _) s e p q = rw (p, q) refl
+text_taken t (Err u) s e p q = cc

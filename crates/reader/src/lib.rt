@@ -60,10 +60,10 @@ pub fn read_into(text: &[u8], site: &mut Site) -> Result<(), Refusal>
     let mut prints = [0u32; 64];
     let mut k: usize = 1;
     for row in (Rows { text }) {
-        let Some(line) = Line::decode(row.chars, row.ended, MOST_DIGITS) else {
+        let Some(formed) = Line::decode(row.chars, row.ended, MOST_DIGITS) else {
             return Err(Reason::Malformed.in_line(k));
         };
-        let entry = entry_of_line(&line, k, counts)?;
+        let entry = entry_of_line(&formed, k, counts)?;
         match entry {
             Entry::Header(header) => counts = header,
             Entry::Cluster {
@@ -72,7 +72,7 @@ pub fn read_into(text: &[u8], site: &mut Site) -> Result<(), Refusal>
                 place: _,
                 len,
             } => {
-                let tag = tag_of(&line, len);
+                let tag = tag_of(&formed.line, len);
                 let print = print_of(&tag.bytes);
                 let i = k - 2;
                 let earlier = &site.clusters[..i];
@@ -103,18 +103,18 @@ pub fn records(text: &[u8]) -> Result<Site, Refusal>
     Ok(site)
 }
 
-// The records of a text, or the refusal of its first bad line with records that are all zero.
+// The records of a text, or the refusal of its first bad line with records that are all zero. They are
+// read where they are handed out, since taken from `records` they would be moved twice.
 pub fn read(text: &[u8]) -> Reading
     ensures { result ≡ read_text text.now }
 {
-    match records(text) {
-        Ok(site) => Reading {
-            site,
-            verdict: Ok(()),
-        },
-        Err(refusal) => Reading {
-            site: NO_SITE,
-            verdict: Err(refusal),
-        },
+    let mut reading = Reading {
+        site: NO_SITE,
+        verdict: Ok(()),
+    };
+    reading.verdict = read_into(text, &mut reading.site);
+    if reading.verdict.is_err() {
+        reading.site = NO_SITE;
     }
+    reading
 }

@@ -12,6 +12,7 @@ pub mod LineAnswers
 pub mod Places
 pub mod WorkedFields
 -- laws of them, which the code and the theorems use
+pub mod Untold
 pub mod FieldLaws
 pub mod LinesLaws
 pub mod TableLaws

@@ -1,5 +1,5 @@
 -- The number of each reason (docs/FORMATS.md, "Refusal numbers", "Checking a plan"), and what a function says that takes or refuses.
-use Rattle.std.specs.Prelude.{ℕ, Option, Some, None, Result, Ok}
+use Rattle.std.specs.Prelude.{◌≢◌, ℕ, Option, Some, None, Result, Ok}
 use Rattle.site.specs.declared.refusal.Reason.{Reason}
 use Rattle.site.specs.declared.refusal.Reason.TheVariants.{Malformed, WrongKind, WrongLength, WrongParent, RepeatedTag, NoFit, NoPlacing, ShortRoom, BadHeader, BadOrder, BadTag, BadEnd, BadTime, BrokenPlan, PlanOrder, PlanClusters, PlanOverlap, PlanLate}
 use Rattle.site.specs.declared.refusal.Refusal.TheInside.{Inside}
@@ -32,6 +32,10 @@ place_of (Some p) = p
 -- the numbers that a refusal tells
 abbrev pub told : Inside → Told
 told r = refusal (number_of r.reason) r.line (place_of r.place)
+
+-- the place of a field is none that stands for no place
+abbrev pub Placed : Inside → Type 0
+Placed r = r.place ≢ Some no_place
 
 abbrev pub at_line : Reason → ℕ → Told
 at_line reason line = refusal (number_of reason) line no_place

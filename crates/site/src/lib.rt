@@ -8,7 +8,7 @@ mod refusal;
 
 pub use fields::{bad_parent, flow_verdict, header_verdict, untagged_verdict};
 pub use line::{entry_of_line, read_line};
-pub use refusal::{Reason, Refusal};
+pub use refusal::{NO_PLACE, Reason, Refusal};
 
 // The limits of docs/FORMATS.md.
 pub const MOST_CLUSTERS: u8 = 64;

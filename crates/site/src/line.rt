@@ -6,7 +6,7 @@ ghost use Rattle.site.specs.Table.{due, fields_of, entry_of};
 
 use crate::fields::{bad_parent, flow_verdict, header_verdict, untagged_verdict};
 use crate::{Counts, Entry, Flow, Kind, MOST_DIGITS, Reason, Refusal};
-use hexbytes::Line;
+use hexbytes::{FormedLine, Line};
 
 impl Kind {
     // The first byte of its lines.
@@ -124,9 +124,10 @@ fn flow_line(line: &Line, k: usize, clusters: u8) -> Result<Entry, Refusal>
 }
 
 // What a well-formed line is as line k, after a header with these counts.
-pub fn entry_of_line(line: &Line, k: usize, counts: Counts) -> Result<Entry, Refusal>
-    ensures { result ≡ entry_of k counts.clusters counts.flows (record { chars = line.now.chars.now; ended = true }) }
+pub fn entry_of_line(formed: &FormedLine, k: usize, counts: Counts) -> Result<Entry, Refusal>
+    ensures { result ≡ entry_of k counts.clusters counts.flows (record { chars = formed.now.line.chars.now; ended = true }) }
 {
+    let line = &formed.line;
     let Some(kind) = counts.due_at(k) else {
         return Err(Reason::WrongKind.in_line(k));
     };
@@ -144,8 +145,8 @@ pub fn entry_of_line(line: &Line, k: usize, counts: Counts) -> Result<Entry, Ref
 pub fn read_line(chars: &[u8], ended: bool, k: usize, counts: Counts) -> Result<Entry, Refusal>
     ensures { result ≡ entry_of k counts.clusters counts.flows (record { chars = chars.now; ended = ended }) }
 {
-    let Some(line) = Line::decode(chars, ended, MOST_DIGITS) else {
+    let Some(formed) = Line::decode(chars, ended, MOST_DIGITS) else {
         return Err(Reason::Malformed.in_line(k));
     };
-    entry_of_line(&line, k, counts)
+    entry_of_line(&formed, k, counts)
 }

@@ -4,6 +4,9 @@ ghost use Rattle.std.specs.Prelude.{◌≡◌};
 
 use std::marker::Model;
 
+// The place in a refusal that names no field.
+pub const NO_PLACE: u8 = 255;
+
 // Why a text, a record, a site or a plan is refused. Each reason's number is its own.
 #[derive(Clone, Copy, Debug, PartialEq, Eq)]
 pub enum Reason {
@@ -48,21 +51,21 @@ impl Reason {
         }
     }
 
-    // A refusal of a line for the field at a place.
+    // A refusal of a line for the field at a place; 255 is none.
     pub fn in_field(self, line: usize, place: u8) -> Refusal
         ensures { result ≡ at_field self line place }
     {
         Refusal {
             reason: self,
             line,
-            place: Some(place),
+            place: Some(place).filter(|&place| place != NO_PLACE),
         }
     }
 }
 
 // A refusal: why, in which line, and at which byte of the record the field stands that is out of range,
-// where it is one. Clauses see its three numbers, with 255 for no place.
-#[derive(Drop)]
+// where it is one. Clauses see its three numbers, with 255 for no place: so 255 is no field's.
+#[derive(Clone, Copy, Drop)]
 pub struct Refusal {
     reason: Reason,
     line: usize,
@@ -74,20 +77,36 @@ impl Model for Refusal {
 
     ghost Value = { Told };
 
-    ghost use Rattle.site.specs.Refusals.{told};
+    ghost use Rattle.site.specs.Refusals.{told, Placed};
+    ghost use Rattle.site.specs.Untold.{untold, untold_again};
 
     ghost view = { told };
+
+    ghost invariant = { Placed };
+
+    ghost inverse = { untold };
+
+    ghost inverse_ok = { untold_again };
 }
 
 impl Refusal {
     ghost use Rattle.std.specs.Prelude.{◌+◌, ◌*◌, ◌≤◌};
+    ghost use Rattle.site.specs.Refusals.{number_of};
     ghost use Rattle.site.specs.Told.{number, line, place};
+
+    // Its reason.
+    pub fn reason(&self) -> Reason
+        ensures { number_of result ≡ number self.now }
+    {
+        self.reason
+    }
 
     // The number of its reason.
     pub fn number(&self) -> u8
         ensures { result ≡ number self.now }
     {
-        self.reason.number()
+        let reason = self.reason();
+        reason.number()
     }
 
     // Its line, 0 where it is that of no line.
@@ -101,7 +120,7 @@ impl Refusal {
     pub fn place(&self) -> u8
         ensures { result ≡ place self.now }
     {
-        self.place.unwrap_or(255)
+        self.place.unwrap_or(NO_PLACE)
     }
 
     // Number and line as one number, for C.

@@ -71,15 +71,15 @@ module _ (turn : In-loop-rest) where
 pub loop-rest-init : goal.loop-rest-init
 loop-rest-init c = passing_start c.args.site.site.now c.args.interval _ c.args.starts.now c.told-starts (counts_in _ (checked_unrefused _ c.args.site.accepted)).clusters
 
-pub returns-in_err-line : goal.returns-in_err-line
-returns-in_err-line c =
-    let turn = (goal.at.returns-in_err-line c).In-loop-rest in
-    rw c.from_residual.ensures (passing_broken _ _ _ _ _ _ _ _ _ _ _ (passing turn) (front_breaks (rest turn) (sym c.in_err-line.ensures)) _)
+pub returns-in_default : goal.returns-in_default
+returns-in_default c =
+    let turn = (goal.at.returns-in_default c).In-loop-rest in
+    passing_broken _ _ _ _ _ _ _ _ _ _ _ (passing turn) (front_breaks (rest turn) (sym c.in_default.ensures)) _
 
 pub is_some_and-described-requires : goal.is_some_and-described-requires
 is_some_and-described-requires c =
     let turn = (goal.at.is_some_and-described-requires c).In-loop-rest in
-    let here = fits (rest turn) c.in_ok-line.ensures in
+    let here = fits (rest turn) c.in-Some.ensures in
     let asks : (x : Bor Cluster) → c.get.result ≡ Some x → (x.now.order ≤ largest) × (x.now.tag.len ≤ 64) × ((i : ℕ) → i < x.now.tag.len → get_or x.now.tag.bytes i 0 < 256) =
     λ x e.
     let found = found_is (site turn) _ c.clusters-clusters.ensures.clusters c.clusters-clusters.ensures.count _ c.get.result c.get.ensures.lookup x e in
@@ -88,18 +88,18 @@ is_some_and-described-requires c =
     search (rules, asks, here)
 
 pub is_tag_whole-requires : goal.is_tag_whole-requires
-is_tag_whole-requires c = omega (arith, (fits _ c.in_ok-line.ensures).0)
+is_tag_whole-requires c = omega (arith, (fits _ c.in-Some.ensures).0)
 
 pub returns-then-not-is_tag_whole : goal.returns-then-not-is_tag_whole
 returns-then-not-is_tag_whole c =
     let turn = (goal.at.returns-then-not-is_tag_whole c).In-loop-rest in
-    passing_broken _ _ _ _ _ _ _ _ _ _ _ (passing turn) (not_whole (rest turn) c.in_ok-line.ensures (sym c.is_tag_whole.ensures ∙ c.if-not-is_tag_whole.true)) _
+    passing_broken _ _ _ _ _ _ _ _ _ _ _ (passing turn) (not_whole (rest turn) c.in-Some.ensures (sym c.is_tag_whole.ensures ∙ c.if-not-is_tag_whole.true)) _
 
 pub slice_bounds-rest-count : goal.slice_bounds-rest-count
-slice_bounds-rest-count c = omega (arith, (fits _ c.in_ok-line.ensures).0, c.from-in-loop-rest.ensures)
+slice_bounds-rest-count c = omega (arith, (fits _ c.in-Some.ensures).0, c.from-in-loop-rest.ensures)
 
 pub slice_bounds-rest-start : goal.slice_bounds-rest-start
-slice_bounds-rest-start c = omega (arith, (fits _ c.in_ok-line.ensures).0, c.from-in-loop-rest.ensures)
+slice_bounds-rest-start c = omega (arith, (fits _ c.in-Some.ensures).0, c.from-in-loop-rest.ensures)
 
 -- the line was read, and its tag has digits only
 module _ (c : After-from-in-loop-rest) where
@@ -107,7 +107,7 @@ module _ (c : After-from-in-loop-rest) where
   text = c.loop-rest.rest.now
 
   abbrev line : PlanLine
-  line = c.in_ok-line.line
+  line = c.in-Some.line
 
   described_is : (x : Bor Cluster) → c.get.result ≡ Some x → c.is_some_and-described.result ≡ (tag_digits text line.len && describes (take (22 + 2 * line.len) text) x.now)
   described_is x e = let said = rw e at c.is_some_and-described.ensures in search rules
@@ -124,7 +124,7 @@ module _ (c : After-from-in-loop-rest) where
   ]
 
   says : LineSays (first_row text) line.number line.start line.length line.len × (line_length text ≡ 22 + 2 * line.len)
-  says = taken text c.in_ok-line.ensures whole
+  says = taken text c.in-Some.ensures whole
 
   -- whether it is described, for a cluster of the site's
   described_site : (found : Option (Bor Cluster)) → c.get.result ≡ found → c.from-number.result < c.args.site.site.now.cluster_count

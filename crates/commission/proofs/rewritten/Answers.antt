@@ -3,17 +3,17 @@ use Rattle.std.proofs.Common.{sym, ap, ◌∙◌, subst}
 use Rattle.std.proofs.lemmas.Result.{err_from_is_err_and}
 use Rattle.writer.specs.Text.{written_says}
 use Rattle.commission.specs.Numbers.{number_of}
-use Rattle.commission.specs.NumberLaws.{SmallWriting, refused_line_small, rewrite_refused, rewrite_taken, written_small}
+use Rattle.commission.specs.NumberLaws.{SmallWriting, read_whole, refused_line_small, rewrite_refused, rewrite_taken, written_small}
 use Rattle.commission.proofs.rewritten.Goals as goal
 
-pub returns-in_err-read_accepted : goal.returns-in_err-read_accepted
-returns-in_err-read_accepted c = let p = err_from_is_err_and c.from_residual.result c.from_residual.ensures.1 in
-    let refused = rw c.in_err-read_accepted.was at c.read_accepted.ensures.refused in
+pub returns-in_err-read_into : goal.returns-in_err-read_into
+returns-in_err-read_into c = let p = err_from_is_err_and c.from_residual.result c.from_residual.ensures.1 in
+    let refused = sym c.read_into.ensures.verdict ∙ c.in_err-read_into.was in
     let told = rewrite_refused c.args.text.now _ refused c.args.room.now in
     rw (p.1, p.2) (record { small = refused_line_small c.args.text.now _ refused; number = told.0; after = told.1 })
 
 pub returns : goal.returns
-returns c = let read = rw c.in_ok-read_accepted.was at c.read_accepted.ensures.taken in
+returns c = let read = read_whole _ _ (sym c.in_ok-read_into.ensures.verdict) c.in_ok-read_into.ensures.records in
     let told = rewrite_taken c.args.text.now _ read c.args.room.now in
     record {
       small = subst SmallWriting (sym c.give_back.ensures.answer) (written_small c.args.text.now _ read _);

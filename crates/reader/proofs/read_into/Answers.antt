@@ -1,7 +1,7 @@
 -- The argument: each answer of the line reader takes one line, by the law of that answer. A cluster's tag that an earlier one has is refused; a tag of another print is
 -- another tag.
 use Rattle.std.specs.Prelude.{◌≡◌, refl, true, false, ◌∷◌, ℕ, ◌+◌, ◌-◌, ◌≤◌, ◌<◌, Option, Some, None, is_some, Result, Ok, Err}
-use Rattle.std.proofs.Common.{sym, ap, ◌∙◌, arith}
+use Rattle.std.proofs.Common.{sym, ap, ◌∙◌, arith, rules}
 use Rattle.std.proofs.lemmas.List.{length-take}
 use Rattle.std.proofs.lemmas.Result.{err_from_is_err_and}
 use Rattle.hexline.specs.Lines.{Row}
@@ -71,7 +71,8 @@ module _ (c : After-entry_of_line) where
 pub returns-in_err-entry : goal.returns-in_err-entry
 returns-in_err-entry c =
     let p = err_from_is_err_and c.from_residual.result c.from_residual.ensures.1 in
-    let bad = sym (answered (goal.at.returns-in_err-entry c).After-entry_of_line) ∙ c.in_err-entry.was in
+    let was : c.entry_of_line.result ≡ Err c.in_err-entry.field-0.0 = search rules in
+    let bad = sym (answered (goal.at.returns-in_err-entry c).After-entry_of_line) ∙ was in
     rw (p.1, p.2) (record { verdict = ap verdict_of (sym (reached_refused _ _ _ _ _ _ (reached (goal.at.returns-in_err-entry c).After-entry_of_line) _ bad)); records = tt })
 
 pub tag_of-tag-requires : goal.tag_of-tag-requires

@@ -10,10 +10,10 @@ use Rattle.site.proofs.line.entry_of_line.Goals.{After-byte}
 
 pub returns-in_default : goal.returns-in_default
 returns-in_default c = let due = sym c.due_at.ensures ∙ ap kind_number c.in_default.is in
-    rw c.in_line.ensures (sym (entry_none_due c.args.k c.args.counts.clusters c.args.counts.flows _ c.args.line.now.well_formed due))
+    rw c.in_line.ensures (sym (entry_none_due c.args.k c.args.counts.clusters c.args.counts.flows _ c.args.formed.now.well_formed due))
 
 pub byte-requires : goal.byte-requires
-byte-requires c = let is = well_formed 136 _ c.args.line.now.well_formed in omega (arith, is.some, is.even)
+byte-requires c = let is = well_formed 136 _ c.args.formed.now.well_formed in omega (arith, is.some, is.even)
 
 -- past the test of the kind
 module _ (c : After-byte) where
@@ -23,7 +23,7 @@ module _ (c : After-byte) where
 pub returns-then-byte-first_byte : goal.returns-then-byte-first_byte
 returns-then-byte-first_byte c = let due = kind_due (goal.at.returns-then-byte-first_byte c).After-byte in
     let other = rw (c.byte.ensures, c.first_byte.ensures) at c.if-byte-first_byte.true in
-    rw c.in_line-then-byte-first_byte.ensures (sym (entry_other_kind c.args.k c.args.counts.clusters c.args.counts.flows _ c.args.line.now.well_formed (λ z. some_kind _ (sym due ∙ z)) (λ b. other (b ∙ due))))
+    rw c.in_line-then-byte-first_byte.ensures (sym (entry_other_kind c.args.k c.args.counts.clusters c.args.counts.flows _ c.args.formed.now.well_formed (λ z. some_kind _ (sym due ∙ z)) (λ b. other (b ∙ due))))
 
 pub cluster_line-requires : goal.cluster_line-requires
 cluster_line-requires c = due_cluster c.args.k c.args.counts.clusters c.args.counts.flows (sym c.due_at.ensures ∙ ap kind_number c.in-Some.is ∙ ap first_byte c.in-Cluster.is)
@@ -31,14 +31,14 @@ cluster_line-requires c = due_cluster c.args.k c.args.counts.clusters c.args.cou
 pub returns-in-Header : goal.returns-in-Header
 returns-in-Header c = let due = sym c.due_at.ensures ∙ ap kind_number c.in-Some.is ∙ ap first_byte c.in-Header.is in
     let first = sym c.byte.ensures ∙ c.if-byte-first_byte.false ∙ c.first_byte.ensures ∙ ap first_byte c.in-Header.is in
-    c.header_line.ensures ∙ sym (header_alone c.args.k c.args.counts.clusters _) ∙ sym (entry_fields c.args.k c.args.counts.clusters c.args.counts.flows _ c.args.line.now.well_formed 1 due (λ z. omega arith) first)
+    c.header_line.ensures ∙ sym (header_alone c.args.k c.args.counts.clusters _) ∙ sym (entry_fields c.args.k c.args.counts.clusters c.args.counts.flows _ c.args.formed.now.well_formed 1 due (λ z. omega arith) first)
 
 pub returns-in-Cluster : goal.returns-in-Cluster
 returns-in-Cluster c = let due = sym c.due_at.ensures ∙ ap kind_number c.in-Some.is ∙ ap first_byte c.in-Cluster.is in
     let first = sym c.byte.ensures ∙ c.if-byte-first_byte.false ∙ c.first_byte.ensures ∙ ap first_byte c.in-Cluster.is in
-    c.cluster_line.ensures ∙ sym (cluster_alone c.args.k c.args.counts.clusters _) ∙ sym (entry_fields c.args.k c.args.counts.clusters c.args.counts.flows _ c.args.line.now.well_formed 2 due (λ z. omega arith) first)
+    c.cluster_line.ensures ∙ sym (cluster_alone c.args.k c.args.counts.clusters _) ∙ sym (entry_fields c.args.k c.args.counts.clusters c.args.counts.flows _ c.args.formed.now.well_formed 2 due (λ z. omega arith) first)
 
 pub returns-in-Flow : goal.returns-in-Flow
 returns-in-Flow c = let due = sym c.due_at.ensures ∙ ap kind_number c.in-Some.is ∙ ap first_byte c.in-Flow.is in
     let first = sym c.byte.ensures ∙ c.if-byte-first_byte.false ∙ c.first_byte.ensures ∙ ap first_byte c.in-Flow.is in
-    c.flow_line.ensures ∙ sym (entry_fields c.args.k c.args.counts.clusters c.args.counts.flows _ c.args.line.now.well_formed 3 due (λ z. omega arith) first)
+    c.flow_line.ensures ∙ sym (entry_fields c.args.k c.args.counts.clusters c.args.counts.flows _ c.args.formed.now.well_formed 3 due (λ z. omega arith) first)

@@ -26,10 +26,10 @@ pub returns-clause-none : goal.returns-clause-none
 unfolding malformed
 returns-clause-none c = simp (sym c.is_empty.ensures ∙ c.if-is_empty.false, le-ltb _ _ c.if-chars-most.false, eq-eqb _ _ c.if-chars-ne0.false, sym c.decode.ensures.0 ∙ c.if-not-decode.false, c.if-not-ended.false)
 
+pub invariant_of-line : goal.invariant_of-line
+invariant_of-line c = record { decoded = record { short = omega arith; bytes = c.decode.ensures.1 c.if-not-decode.false } }
+
 pub invariant_of-result : goal.invariant_of-result
 unfolding malformed
-invariant_of-result c = let read = c.if-not-decode.false in
-    record {
-      well_formed = simp (sym c.is_empty.ensures ∙ c.if-is_empty.false, le-ltb 136 (length c.args.chars.now) (omega arith), eq-eqb _ _ c.if-chars-ne0.false, sym c.decode.ensures.0 ∙ read);
-      decoded = record { short = omega arith; bytes = c.decode.ensures.1 read };
-    }
+invariant_of-result c =
+    record { well_formed = simp (sym c.is_empty.ensures ∙ c.if-is_empty.false, le-ltb 136 (length c.args.chars.now) (omega arith), eq-eqb _ _ c.if-chars-ne0.false, sym c.decode.ensures.0 ∙ c.if-not-decode.false) }
