@@ -5,7 +5,7 @@
 -- reader::read_into, which leaves the records open after a refusal.
 -- A line that is decoded is the text that it was made of and its bytes, and of two such lines both are equal.
 use Rattle.std.specs.Prelude.{◌≡◌, refl, true, not, ◌&&◌, Option, Some, None, is_none, IfSome, Result, Ok, Err, OnOk, List, [], ◌∷◌, ◌++◌, ℕ, ◌+◌, ◌-◌, ◌*◌, ◌/◌, ◌<◌, min, length, get_or, take, drop}
-use Rattle.std.proofs.Common.{sym, ◌∙◌, subst, arith}
+use Rattle.std.proofs.Common.{sym, ap, ◌∙◌, subst, arith}
 use Rattle.std.specs.Borrow.{Bor}
 use Rattle.hexline.specs.Digits.{is_digit as is_digit_of, digit, hex_of, byte_at, number_at, hexes, number_bytes, field_bytes, line_of}
 use Rattle.hexline.specs.Loops.{every}
@@ -35,6 +35,7 @@ use Rattle.site.specs.declared.Flow.{Flow}
 use Rattle.site.specs.declared.Kind.{Kind}
 use Rattle.site.specs.declared.Kind.TheVariants.{Header, Cluster as ACluster, Flow as AFlow}
 use Rattle.site.specs.declared.refusal.Reason.{Reason}
+use Rattle.site.specs.declared.refusal.Refusal.TheInside.{Inside}
 use Rattle.site.specs.declared.Site.{Site}
 use Rattle.site.specs.declared.Tag.{Tag}
 use Rattle.site.specs.Fields.{header_verdict, untagged_verdict, flow_verdict}
@@ -43,7 +44,8 @@ use Rattle.site.specs.Lines.{tag_at}
 use Rattle.site.specs.Records.{same_tag, tag_taken, wrong_parent}
 use Rattle.site.specs.Refusals.{number_of, at_line, at_field, Verdict}
 use Rattle.site.specs.Table.{due, entry_of}
-use Rattle.site.specs.Told.{Told, number as number_told, line as line_told, place as place_told}
+use Rattle.site.specs.Told.{Told, refusal, number as number_told, line as line_told, place as place_told}
+use Rattle.site.specs.Untold.{untold, untold_again}
 use Rattle.reader.specs.Reading.{read_text, records_of}
 use Rattle.records.specs.Check.{checked}
 use Rattle.shown.specs.Shown.{line_start as line_start_of, line_at as line_at_of, Shown}
@@ -101,6 +103,14 @@ one_kind (Some AFlow) (Some Header) e = absurd (omega (arith, e))
 one_kind (Some AFlow) (Some ACluster) e = absurd (omega (arith, e))
 one_kind (Some AFlow) (Some AFlow) e = refl
 
+-- a reason is known by its number
+plain : Reason → Inside
+plain reason = record { reason = reason; line = 0; place = None }
+
+one_reason : (a b : Reason) → number_of a ≡ number_of b → a ≡ b
+unfolding plain
+one_reason a b e = ap (λ (r : Inside). r.reason) (sym (untold_again (plain a) (λ none. cc)) ∙ ap (λ n. untold (refusal n 0 255)) e ∙ untold_again (plain b) (λ none. cc))
+
 -- what lies in memory that a reading fills, where it is taken
 both_taken : (v : Verdict) (s₁ s₂ s : Site) → OnOk v (s₁ ≡ s) → OnOk v (s₂ ≡ s) → OnOk v (s₁ ≡ s₂)
 both_taken (Ok _) s₁ s₂ s p q = p ∙ sym q
@@ -138,6 +148,7 @@ pub record EqualResults : Type 0 where
   pub reason_number : (reason : Reason) → OneResult (number_of reason)
   pub in_line : (reason : Reason) (line : ℕ) → OneResult (at_line reason line)
   pub in_field : (reason : Reason) (line place : ℕ) → OneResult (at_field reason line place)
+  pub refusal_reason : (refused : Told) (r₁ r₂ : Reason) → number_of r₁ ≡ number_told refused → number_of r₂ ≡ number_told refused → r₁ ≡ r₂
   pub refusal_number : (refused : Told) → OneResult (number_told refused)
   pub refusal_line : (refused : Told) → OneResult (line_told refused)
   pub refusal_place : (refused : Told) → OneResult (place_told refused)
@@ -233,6 +244,7 @@ results_are_equal = record {
   reason_number = λ reason. equal_results (number_of reason);
   in_line = λ reason line. equal_results (at_line reason line);
   in_field = λ reason line place. equal_results (at_field reason line place);
+  refusal_reason = λ refused r₁ r₂ p q. one_reason r₁ r₂ (equal_results (number_told refused) (number_of r₁) (number_of r₂) p q);
   refusal_number = λ refused. equal_results (number_told refused);
   refusal_line = λ refused. equal_results (line_told refused);
   refusal_place = λ refused. equal_results (place_told refused);

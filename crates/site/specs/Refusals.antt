@@ -34,8 +34,8 @@ abbrev pub told : Inside → Told
 told r = refusal (number_of r.reason) r.line (place_of r.place)
 
 -- the place of a field is none that stands for no place
-abbrev pub Placed : Inside → Type 0
-Placed r = r.place ≢ Some no_place
+abbrev pub PlaceNamed : Inside → Type 0
+PlaceNamed r = r.place ≢ Some no_place
 
 abbrev pub at_line : Reason → ℕ → Told
 at_line reason line = refusal (number_of reason) line no_place

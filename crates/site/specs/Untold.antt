@@ -6,7 +6,7 @@ use Rattle.site.specs.declared.refusal.Reason.{Reason}
 use Rattle.site.specs.declared.refusal.Reason.TheVariants.{Malformed, WrongKind, WrongLength, WrongParent, RepeatedTag, NoFit, NoPlacing, ShortRoom, BadHeader, BadOrder, BadTag, BadEnd, BadTime, BrokenPlan, PlanOrder, PlanClusters, PlanOverlap, PlanLate}
 use Rattle.site.specs.declared.refusal.Refusal.TheInside.{Inside}
 use Rattle.site.specs.Told.{Told, refusal, no_place}
-use Rattle.site.specs.Refusals.{number_of, place_of, told, Placed}
+use Rattle.site.specs.Refusals.{number_of, place_of, told, PlaceNamed}
 
 abbrev reason_with : ℕ → Reason
 reason_with n =
@@ -61,5 +61,5 @@ place_again (Some p) other = elim (decide (eqb p no_place)) [
   | inr e ↦ rw e
 ]
 
-pub untold_again : (r : Inside) → Placed r → untold (told r) ≡ r
+pub untold_again : (r : Inside) → PlaceNamed r → untold (told r) ≡ r
 untold_again r placed = rw (reason_again r.reason, place_again r.place placed)

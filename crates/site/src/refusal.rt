@@ -77,12 +77,12 @@ impl Model for Refusal {
 
     ghost Value = { Told };
 
-    ghost use Rattle.site.specs.Refusals.{told, Placed};
+    ghost use Rattle.site.specs.Refusals.{told, PlaceNamed};
     ghost use Rattle.site.specs.Untold.{untold, untold_again};
 
     ghost view = { told };
 
-    ghost invariant = { Placed };
+    ghost invariant = { PlaceNamed };
 
     ghost inverse = { untold };
 

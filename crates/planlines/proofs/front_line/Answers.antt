@@ -19,7 +19,11 @@ unended : (c : After-ne) → c.ne.result ≡ not (ltb (end_in c.args.rest.now) (
 unended c =
     let rest = c.args.rest.now in
     let end : 22 + 2 * c.from.result ≡ end_in rest = omega (arith, c.from.ensures, rw c.in_ok-front.ensures.same at c.byte-len.ensures) in
-    c.ne.ensures ∙ ap not (found_is rest _ c.get.result _ c.get.ensures.lookup.0 (c.get.ensures.lookup.4 (omega arith) 0)) ∙ ap (λ (n : ℕ). not (ltb n (length rest) && eqb (get_or rest n 0) 10)) end
+    let at : ℕ = 22 + 2 * c.from.result in
+    c.ne.ensures
+    ∙ ap not (found_is rest at c.get.result _ c.get.ensures.lookup.0 (c.get.ensures.lookup.4 (omega arith) 0))
+    ∙ ap (λ (b : ℕ). not (ltb at (length rest) && eqb (get_or rest at 0) b)) (omega arith)
+    ∙ ap (λ (n : ℕ). not (ltb n (length rest) && eqb (get_or rest n 0) 10)) end
 
 pub returns-in_err-front : goal.returns-in_err-front
 returns-in_err-front c = c.from_residual.ensures ∙ front_refused _ (λ k. true≢false (sym (c.in_err-front.ensures.whole.1 record { long = k.long; digits = k.digits })))
