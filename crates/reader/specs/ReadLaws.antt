@@ -26,7 +26,7 @@ use Rattle.site.specs.Lines.{size, tag_at, cluster_of, flow_of}
 use Rattle.site.specs.Table.{refused_if, or_else, first_of, due, wrong_kind, wrong_length, fields_verdict, repeated, line_verdicts, record_of, answered, entry_of, line_verdict}
 use Rattle.site.specs.TableLaws.{header, cluster, flow, beyond, place, all_accept, test_accepts}
 use Rattle.reader.specs.declared.Reading.{Reading}
-use Rattle.reader.specs.Reading.{with_header, with_cluster, with_flow, verdict_at, entered, accepted as taken, refused_by, refused, onward, read_rows, read_text}
+use Rattle.reader.specs.Reading.{with_header, with_cluster, with_flow, verdict_at, entered, accepted as taken, refused_by, refused, onward, read_rows, read_text, records_if, records_of}
 
 -- the first of two lists of verdicts
 first-append : (vs ws : List Verdict) → first_of (vs ++ ws) ≡ or_else (first_of vs) (first_of ws)
@@ -240,10 +240,18 @@ rows_zero u k s [] e = elim (decide (eqb (due k s.cluster_count s.flow_count) 0)
 ]
 rows_zero u k s (r ∷ rs) e = onward_refused u (verdict_at k s r) (read_rows (k + 1) (entered k s r.chars) rs) (rows_zero u (k + 1) (entered k s r.chars) rs) e
 
-pub text_refused : (t : List ℕ) (v : Verdict) → is_err v ≡ true → v ≡ (read_text t).verdict → ◌≡◌ {A = Reading} (record { site = no_site; verdict = v }) (read_text t)
+refused_alone : (u : Told) (v : Verdict) (s : Site) → records_if v s ≡ Err u → v ≡ Err u
+refused_alone u (Ok _) s e = cc
+refused_alone u (Err _) s e = cc
+
+pub text_refused : (t : List ℕ) (u : Told) → records_of (read_text t) ≡ Err u → read_text t ≡ refused_by u
 unfolding read_text
-text_refused t (Ok _) e p = cc
-text_refused t (Err u) e p = sym (rows_zero u 1 no_site (rows t) (sym p))
+text_refused t u e = rows_zero u 1 no_site (rows t) (refused_alone u (read_text t).verdict (read_text t).site e)
+
+-- a reading's two halves make it up, whether it refuses or not
+pub text_not_taken : (t : List ℕ) (v : Verdict) → is_err v ≡ true → v ≡ (read_text t).verdict → ◌≡◌ {A = Reading} (record { site = no_site; verdict = v }) (read_text t)
+text_not_taken t (Ok _) e p = cc
+text_not_taken t (Err u) e p = sym (text_refused t u (ap (λ (v : Verdict). records_if v (read_text t).site) (sym p)))
 
 pub text_taken : (t : List ℕ) (v : Verdict) (s : Site) → is_err v ≡ false → v ≡ (read_text t).verdict → OnOk v (s ≡ (read_text t).site) → ◌≡◌ {A = Reading} (record { site = s; verdict = v }) (read_text t)
 text_taken t (Ok _) s e p q = rw (p, q) refl
